@@ -6,7 +6,7 @@ use mathlib.Core.List.{List}
 use Prim.Native.Nat.{ℕ, ◌<◌}
 use native.Mathlib.Omega.{arith}
 use Rattle.rules.specs.Layout.{view_settings, view_sessions}
-use Rattle.rules.specs.Elements.{Refusal, missing, conditional, tooShort, incorrect, cause_of}
+use Rattle.rules.specs.Elements.{Refusal, missing, conditional, too_short, incorrect, cause_of}
 use Rattle.rules.specs.Message.{Spot, frame_fault}
 use Rattle.rules.specs.Stages as rules
 use Rattle.rules.specs.Reading.{Fault, faulty, read, fault_in, read_fault}
@@ -20,7 +20,7 @@ small_cause : (f : Refusal) → (cause_of f < 256) × (cause_of f ≡ 1 → ⊥)
 unfolding cause_of
 small_cause missing = (omega arith, λ e. omega arith)
 small_cause conditional = (omega arith, λ e. omega arith)
-small_cause tooShort = (omega arith, λ e. omega arith)
+small_cause too_short = (omega arith, λ e. omega arith)
 small_cause incorrect = (omega arith, λ e. omega arith)
 
 -- the verdict of a fault: what refusing asks, and its place

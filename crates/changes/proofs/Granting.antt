@@ -18,9 +18,9 @@ use Rattle.octets.proofs.Tests.{and_left, both, all_head, all_tail, is_true}
 use Rattle.octets.proofs.Ordered.{keep_passes}
 use Rattle.octets.proofs.ListLaws.{Every, OnSome, map-map}
 use Rattle.rules.specs.Model.{Tunnel, tunnel}
-use Rattle.rules.specs.Elements.{given, choose, ue_given, ueChoose, ueOther, Fqcsid, sets, removal, node_type_kept, node_address_allowed, node_address_tests}
+use Rattle.rules.specs.Elements.{given, choose, ue_given, ue_choose, ue_other, Fqcsid, sets, removal, node_type_kept, node_address_allowed, node_address_tests}
 use Rattle.rules.specs.Request.{cleared, changed}
-use Rattle.rules.specs.Grants.{Kind, ofPdr, ofEndpoint, Got, Grant, granted_teid}
+use Rattle.rules.specs.Grants.{Kind, of_pdr, of_endpoint, Got, Grant, granted_teid}
 use Rattle.rules.specs.Apply.{tunnel_from, match_from, address_got, address_from, made_pdr, made_endpoint, pdr_by}
 use Rattle.laws.proofs.RequestLaws.{PdrRead, EndpointRead, CsidsRead, RequestRead}
 use Rattle.laws.proofs.ReadLaws.{CsidRead}
@@ -136,19 +136,19 @@ unfolding row_ue ue_from
 address_of_lem row n e = go (eqb (word its.ue_kind row) 0) (eqb (word its.ue_kind row) 1) (eqb (word its.ue_kind row) 2) e
   where
     go : (a b c : Bool) → (c ≡ true → n ≡ word its.ue_address row)
-        → address_from n (pick a none (some (pick b (ue_given (word its.ue_address row)) (pick c ueChoose ueOther))))
-        ≡ address_from (word its.ue_address row) (pick a none (some (pick b (ue_given (word its.ue_address row)) (pick c ueChoose ueOther))))
+        → address_from n (pick a none (some (pick b (ue_given (word its.ue_address row)) (pick c ue_choose ue_other))))
+        ≡ address_from (word its.ue_address row) (pick a none (some (pick b (ue_given (word its.ue_address row)) (pick c ue_choose ue_other))))
     go true b c g = unfold address_from in refl
     go false true c g = unfold address_from address_got in refl
     go false false true g = unfold address_from address_got in (ap (λ (k : ℕ). some k) (g refl))
     go false false false g = unfold address_from address_got in refl
 
-endpoint_stored : (got : Kind → ℕ → Got) (row : List ℕ) → (bit 2 (word its.flags row) ≡ true → (got ofEndpoint (word its.endpoint_id row)).teid ≡ word its.teid row)
-    → (eqb (word its.ue_kind row) 2 ≡ true → (got ofEndpoint (word its.endpoint_id row)).address ≡ word its.ue_address row) → made_endpoint got (row_endpoint row) ≡ endpoint_of row
+endpoint_stored : (got : Kind → ℕ → Got) (row : List ℕ) → (bit 2 (word its.flags row) ≡ true → (got of_endpoint (word its.endpoint_id row)).teid ≡ word its.teid row)
+    → (eqb (word its.ue_kind row) 2 ≡ true → (got of_endpoint (word its.endpoint_id row)).address ≡ word its.ue_address row) → made_endpoint got (row_endpoint row) ≡ endpoint_of row
 unfolding made_endpoint endpoint_of row_endpoint
 endpoint_stored got row e f =
-    let local = tunnel_of_lem row (got ofEndpoint (word its.endpoint_id row)).teid e in
-    let address = address_of_lem row (got ofEndpoint (word its.endpoint_id row)).address f in
+    let local = tunnel_of_lem row (got of_endpoint (word its.endpoint_id row)).teid e in
+    let address = address_of_lem row (got of_endpoint (word its.endpoint_id row)).address f in
     λ i. record { id = word its.endpoint_id row; local = local i; address = address i }
 
 match_of : (row : List ℕ) (n : ℕ) → (bit 2 (word its.flags row) ≡ true → n ≡ word its.teid row) → (e : Option ℕ) → match_from n (row_local row) e ≡ match_from (word its.teid row) (row_local row) e
@@ -159,12 +159,12 @@ match_of row n h e = go (eqb (word its.flags row) 0)
     go true = unfold match_from in refl
     go false = unfold match_from in (ap (λ (t : Tunnel). tunnel t) (tunnel_of_lem row n h))
 
-pdr_stored : (got : Kind → ℕ → Got) (row : List ℕ) → (bit 2 (word its.flags row) ≡ true → (got ofPdr (word its.pdr_id row)).teid ≡ word its.teid row)
-    → (eqb (word its.ue_kind row) 2 ≡ true → (got ofPdr (word its.pdr_id row)).address ≡ word its.ue_address row) → made_pdr got (row_pdr row) ≡ pdr_of row
+pdr_stored : (got : Kind → ℕ → Got) (row : List ℕ) → (bit 2 (word its.flags row) ≡ true → (got of_pdr (word its.pdr_id row)).teid ≡ word its.teid row)
+    → (eqb (word its.ue_kind row) 2 ≡ true → (got of_pdr (word its.pdr_id row)).address ≡ word its.ue_address row) → made_pdr got (row_pdr row) ≡ pdr_of row
 unfolding made_pdr pdr_of row_pdr
 pdr_stored got row e f =
-    let matched = match_of row (got ofPdr (word its.pdr_id row)).teid e (present (word its.has_endpoint_id row) (word its.endpoint_id row)) in
-    let address = address_of_lem row (got ofPdr (word its.pdr_id row)).address f in
+    let matched = match_of row (got of_pdr (word its.pdr_id row)).teid e (present (word its.has_endpoint_id row) (word its.endpoint_id row)) in
+    let address = address_of_lem row (got of_pdr (word its.pdr_id row)).address f in
     λ i. pdr_by (row_pdr row) (matched i) (address i)
 
 -- a row that chooses holds its grant
@@ -214,14 +214,14 @@ module _ (gs : List Grant) (a : ℕ) where
             map-map row_endpoint (made_endpoint (gets gs a)) (tagged ie.create_endpoint (map with rows))
             ∙ rows_with (λ row. made_endpoint (gets gs a) (row_endpoint row)) endpoint_of ie.create_endpoint
             (λ row l t. endpoint_stored (gets gs a) (with row)
-            (λ e. ap (granted_teid gs ofEndpoint) ((like row).words 11 (λ z. omega arith) (λ z. omega arith))
+            (λ e. ap (granted_teid gs of_endpoint) ((like row).words 11 (λ z. omega arith) (λ z. omega arith))
             ∙ sym (teid_word row ∙ endpoint_teid gs row l (chooses_as ie.create_endpoint row t (flags_with row e))))
             (λ e. sym (address_got_lem gs a row l ((either_tag row).0 t) (ue_with row e)))) rows h;
         pdr_got =
             map-map row_pdr (made_pdr (gets gs a)) (tagged ie.create_pdr (map with rows))
             ∙ rows_with (λ row. made_pdr (gets gs a) (row_pdr row)) pdr_of ie.create_pdr
             (λ row l t. pdr_stored (gets gs a) (with row)
-            (λ e. ap (granted_teid gs ofPdr) ((like row).words 7 (λ z. omega arith) (λ z. omega arith))
+            (λ e. ap (granted_teid gs of_pdr) ((like row).words 7 (λ z. omega arith) (λ z. omega arith))
             ∙ sym (teid_word row ∙ pdr_teid gs row l (chooses_as ie.create_pdr row t (flags_with row e))))
             (λ e. sym (address_got_lem gs a row l ((either_tag row).1 t) (ue_with row e)))) rows h;
       }

@@ -111,14 +111,14 @@ module _ (s : Settings) (hs : T (settings_allowed s)) where
   pdrs_again got live [] h = refl
   pdrs_again got live (p ∷ ps) h =
       let e = pdr_kept s live p (all_head (pdr_allowed s live) p ps h) in
-      λ i. pdr_by (restored_pdr s p) (match_again (got Kind.ofPdr p.id).teid live p.match e.match i) (address_again (got Kind.ofPdr p.id).address p.address i)
+      λ i. pdr_by (restored_pdr s p) (match_again (got Kind.of_pdr p.id).teid live p.match e.match i) (address_again (got Kind.of_pdr p.id).address p.address i)
       ∷ pdrs_again got live ps (all_tail (pdr_allowed s live) p ps h) i
 
   endpoints_again : (got : Kind → ℕ → Got) (es : List Endpoint) → T (all (endpoint_allowed s) es) → map (made_endpoint got) (map (restored_endpoint s) es) ≡ es
   unfolding made_endpoint restored_endpoint
   endpoints_again got [] h = refl
   endpoints_again got (e ∷ es) h =
-      λ i. record { id = e.id; local = tunnel_again (got Kind.ofEndpoint e.id).teid e.local (endpoint_kept s e (all_head (endpoint_allowed s) e es h)).local i; address = address_again (got Kind.ofEndpoint e.id).address e.address i }
+      λ i. record { id = e.id; local = tunnel_again (got Kind.of_endpoint e.id).teid e.local (endpoint_kept s e (all_head (endpoint_allowed s) e es h)).local i; address = address_again (got Kind.of_endpoint e.id).address e.address i }
       ∷ endpoints_again got es (all_tail (endpoint_allowed s) e es h) i
 
   module _ (x : Session) (hx : T (session_allowed s x)) where
@@ -148,7 +148,7 @@ module _ (s : Settings) (hs : T (settings_allowed s)) where
     -- ---- the call
 
     module _ (m : Sessions) (fresh : is_live (session_key x) m ≡ false) (room : RoomFor s x m)
-        (separate : T (not (any_in (session_teids x) (held_teids m)))) (separateAddresses : T (not (any_in (session_addresses s x) (held_addresses s m)))) (p : Sender) (hp : T (sender_allowed p)) where
+        (separate : T (not (any_in (session_teids x) (held_teids m)))) (separate_addresses : T (not (any_in (session_addresses s x) (held_addresses s m)))) (p : Sender) (hp : T (sender_allowed p)) where
       abbrev msg : List ℕ
       msg = restoration s p x
 
@@ -162,7 +162,7 @@ module _ (s : Settings) (hs : T (settings_allowed s)) where
           ∙ at_new
         where
           at_new : judge establishment s x.peer m (at_entry establishment x.peer (header_seid msg) (restored_request s x) m) (restored_request s x) ≡ plain why.accepted
-          at_new = unfold at_entry unnamed restored_request in (restored_judged s hs x hx m fresh room separate separateAddresses)
+          at_new = unfold at_entry unnamed restored_request in (restored_judged s hs x hx m fresh room separate separate_addresses)
 
       msg_after : sessions_after s x.peer m msg ≡ put_session x m
       unfolding sessions_after follow at_entry unnamed

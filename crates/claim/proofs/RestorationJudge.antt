@@ -214,7 +214,7 @@ module _ (s : Settings) (hs : T (settings_allowed s)) where
   no_pdr_choice [] = refl
   no_pdr_choice (p ∷ ps) = ap₂ cons_option (go p.match) (no_pdr_choice ps)
     where
-      go : (l : Match) → bind_option (map_option (unit_fteid s) (matched_tunnel l)) (choice_of Kind.ofPdr p.id) ≡ none
+      go : (l : Match) → bind_option (map_option (unit_fteid s) (matched_tunnel l)) (choice_of Kind.of_pdr p.id) ≡ none
       go neither = unfold matched_tunnel in refl
       go (tunnel t) = unfold matched_tunnel choice_of unit_fteid in refl
       go (endpoint e) = unfold matched_tunnel in refl
@@ -327,7 +327,7 @@ module _ (s : Settings) (hs : T (settings_allowed s)) where
     needs = let e = ap₂ (λ (l : List Choice) (hs' : List Holding). need_of l + distinct (map teid_of hs')) no_choices holds in omega arith
 
     module _ (m : Sessions) (fresh : is_live (session_key x) m ≡ false) (room : RoomFor s x m)
-        (separate : T (not (any_in (session_teids x) (held_teids m)))) (separateAddresses : T (not (any_in (session_addresses s x) (held_addresses s m)))) where
+        (separate : T (not (any_in (session_teids x) (held_teids m)))) (separate_addresses : T (not (any_in (session_addresses s x) (held_addresses s m)))) where
       own : T (all_pairs agree (session_holdings x))
       own = (session_kept s x hx).holds
 
@@ -339,7 +339,7 @@ module _ (s : Settings) (hs : T (settings_allowed s)) where
 
       no_address_clash : address_clash s m request ≡ false
       unfolding address_clash
-      no_address_clash = ap (λ (l : List ℕ). any_in l (held_addresses s m)) restored_addresses_lem ∙ is_false (any_in (session_addresses s x) (held_addresses s m)) separateAddresses
+      no_address_clash = ap (λ (l : List ℕ). any_in l (held_addresses s m)) restored_addresses_lem ∙ is_false (any_in (session_addresses s x) (held_addresses s m)) separate_addresses
 
       rules_kept : breaks_rule s m (new_session x.peer x.seid) request ≡ false
       unfolding breaks_rule request_rules broken_rules updates_removed updated_pdrs any_in request restored_request

@@ -14,7 +14,7 @@ use Rattle.rules.specs.Serve.{Served, serve}
 use Rattle.rules.specs.Live.{Event, replied, accepted_event, live, live_from, reply_cause}
 use Rattle.rules.specs.Calls.{Call, call_allowed, table_after_call, event_of, table_after_all, events_of}
 use Rattle.rules.specs.Causes as why
-use Rattle.rules.specs.Claim.{Step, asked, told, toldAddresses, step_allowed, Ran, last_table, event_in, live_set, Restore, restored, restore_allowed, restore_calls, call_in, map_of, address_map_of, Holds, Restores, Demand3, EachItsDue}
+use Rattle.rules.specs.Claim.{Step, asked, told, told_addresses, step_allowed, Ran, last_table, event_in, live_set, Restore, restored, restore_allowed, restore_calls, call_in, map_of, address_map_of, Holds, Restores, Demand3, EachItsDue}
 use Rattle.laws.proofs.TableLaws.{sessions_back, encoded_settings, sound_encode}
 use Rattle.claim.proofs.RestoreAll.{restored_table, restored_accepted}
 use Rattle.invariants.proofs.Beside.{empty_allowed}
@@ -46,7 +46,7 @@ run_table t [] h = refl
 run_table t (asked who msg space r ∷ steps) h =
     run_table r.table steps h.1 ∙ ap (λ (q : Served). table_after_all q.table (calls steps)) h.0
 run_table t (told c ∷ steps) h = run_table t steps h.1
-run_table t (toldAddresses c ∷ steps) h = run_table t steps h.1
+run_table t (told_addresses c ∷ steps) h = run_table t steps h.1
 
 run_events : (t : List ℕ) (steps : List Step) → Ran t steps → map event_in steps ≡ events_of t (calls steps)
 unfolding event_in call_in events_of event_of table_after_call
@@ -55,7 +55,7 @@ run_events t (asked who msg space r ∷ steps) h =
     ap (λ (es : List Event). replied who msg r.outcome r.space ∷ es) (run_events r.table steps h.1)
     ∙ ap (λ (q : Served). replied who msg q.outcome q.space ∷ events_of q.table (calls steps)) h.0
 run_events t (told c ∷ steps) h = ap (λ (es : List Event). event_in (told c) ∷ es) (run_events t steps h.1)
-run_events t (toldAddresses c ∷ steps) h = ap (λ (es : List Event). event_in (toldAddresses c) ∷ es) (run_events t steps h.1)
+run_events t (told_addresses c ∷ steps) h = ap (λ (es : List Event). event_in (told_addresses c) ∷ es) (run_events t steps h.1)
 
 run_allowed : (steps : List Step) → T (all step_allowed steps) → T (all call_allowed (calls steps))
 unfolding step_allowed call_in call_allowed all
@@ -64,8 +64,8 @@ run_allowed (asked who msg space r ∷ steps) h =
     all_cons call_allowed (call_in (asked who msg space r)) (calls steps) (all_head step_allowed (asked who msg space r) steps h) (run_allowed steps (all_tail step_allowed (asked who msg space r) steps h))
 run_allowed (told c ∷ steps) h =
     all_cons call_allowed (call_in (told c)) (calls steps) tt (run_allowed steps (all_tail step_allowed (told c) steps h))
-run_allowed (toldAddresses c ∷ steps) h =
-    all_cons call_allowed (call_in (toldAddresses c)) (calls steps) tt (run_allowed steps (all_tail step_allowed (toldAddresses c) steps h))
+run_allowed (told_addresses c ∷ steps) h =
+    all_cons call_allowed (call_in (told_addresses c)) (calls steps) tt (run_allowed steps (all_tail step_allowed (told_addresses c) steps h))
 
 -- ---- restorations of the sessions that a table encodes
 

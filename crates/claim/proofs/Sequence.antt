@@ -14,7 +14,7 @@ use Rattle.rules.specs.Model.{Settings, Sessions}
 use Rattle.rules.specs.Layout.{table_length, encode}
 use Rattle.rules.specs.Sound.{settings_allowed, sessions_allowed, make, Made}
 use Rattle.rules.specs.Live.{accepted_event, live_step, live_from}
-use Rattle.rules.specs.Calls.{Call, request, count, countIps, call_allowed, table_after_call, event_of, table_after_all, events_of}
+use Rattle.rules.specs.Calls.{Call, request, count, count_ips, call_allowed, table_after_call, event_of, table_after_all, events_of}
 use Rattle.invariants.proofs.Steps.{Kept, Keeps}
 
 module _ (keeps : Keeps) (s : Settings) (hs : T (settings_allowed s)) where
@@ -22,7 +22,7 @@ module _ (keeps : Keeps) (s : Settings) (hs : T (settings_allowed s)) where
   unfolding Keeps call_allowed table_after_call event_of live_step accepted_event
   one m (request who msg space) hm hc = keeps s who m msg space hs hm (and_left (octets msg) (octets space) hc) (and_right (octets msg) (octets space) hc)
   one m count hm hc = record { after = m; sound = hm; table = refl; live = refl }
-  one m countIps hm hc = record { after = m; sound = hm; table = refl; live = refl }
+  one m count_ips hm hc = record { after = m; sound = hm; table = refl; live = refl }
 
   -- calls one after the other
   pub record KeptAll (m : Sessions) (cs : List Call) : Type 0 where

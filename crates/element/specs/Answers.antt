@@ -3,7 +3,7 @@ use Rattle.std.specs.Prelude.{Bool, false, List, ℕ}
 use Rattle.std.proofs.Math.Option.{Option, none, some}
 use Rattle.octets.specs.Choice.{value_or, map_option}
 use Rattle.rules.specs.Elements as rules
-use Rattle.rules.specs.Elements.{tooShort, incorrect}
+use Rattle.rules.specs.Elements.{too_short, incorrect}
 use Rattle.element.specs.declared.Refusal.{Refusal}
 use Rattle.element.specs.declared.Refusal.TheVariants.{TooShort, Incorrect}
 use Rattle.element.specs.declared.Written.{Written}
@@ -11,7 +11,7 @@ use Rattle.element.specs.declared.Written.TheVariants.{Octets, Refused}
 
 -- why a reader refuses
 abbrev pub refusal_of : Refusal → rules.Refusal
-refusal_of TooShort = tooShort
+refusal_of TooShort = too_short
 refusal_of Incorrect = incorrect
 
 -- how many octets a writer says that it wrote, none where it says that it refused

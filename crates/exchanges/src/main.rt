@@ -111,7 +111,8 @@ fn remake(
     s: &[u8],
 ) -> io::Result<usize>
     requires { (n ≤ length t.old) × (length s.now ≡ 49) }
-    ensures { IfOk result (λ end. end ≤ length t.new) }
+    ensures within { IfOk result (λ end. end ≤ length t.new) }
+    ensures room { length t.new ≡ length t.old }
 {
     let end = make(t, s);
     if end == 0 {
@@ -228,7 +229,8 @@ fn exchange(
     s: &[u8],
 ) -> io::Result<usize>
     requires { n ≤ length t.old }
-    ensures { IfOk result (λ end. end ≤ length t.new) }
+    ensures within { IfOk result (λ end. end ≤ length t.new) }
+    ensures room { length t.new ≡ length t.old }
 {
     if s.len() == MAKING {
         if s[0] == 0 {

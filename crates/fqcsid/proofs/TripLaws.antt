@@ -17,7 +17,7 @@ use Rattle.octets.specs.Lists.{all}
 use Rattle.octets.proofs.Tests.{each, of_true, is_true, and_left, and_right}
 use Rattle.octets.proofs.Numbers.{length_be, number_be, length_concat_map, slices_concat_map}
 use Rattle.octets.proofs.FieldLaws.{first_written, fields_octets, octets_fields_all, first_read, elements_all, length_fields_at, fit_fields_lem}
-use Rattle.rules.specs.Elements.{Fqcsid, sets, removal, address_length, operator_allowed, node_address_tests, node_address_allowed, node_type_kept, csids_read, csid_fields, count_allowed, checked_csid, csid_rest, read_fqcsid, below16, sets_tests, fqcsid_allowed, fqcsid_octets, write_fqcsid, value, tooShort, incorrect}
+use Rattle.rules.specs.Elements.{Fqcsid, sets, removal, address_length, operator_allowed, node_address_tests, node_address_allowed, node_type_kept, csids_read, csid_fields, count_allowed, checked_csid, csid_rest, read_fqcsid, below16, sets_tests, fqcsid_allowed, fqcsid_octets, write_fqcsid, value, too_short, incorrect}
 use Rattle.fqcsid.specs.declared.FqCsid.{FqCsid}
 use Rattle.fqcsid.specs.declared.Answer.{Answer}
 use Rattle.fqcsid.specs.declared.Answer.TheVariants.{Value, Refused}
@@ -45,7 +45,7 @@ fqcsid_more (x ∷ xs) rest v h =
     let m : ℕ = x % 16 in
     let a : ℕ = address_length (x / 16) in
     let one = not_refused (ltb 2 (x / 16)) incorrect _ v h in
-    let two = not_refused (ltb (length xs) (a + 2 * m + 1)) tooShort _ v one.1 in
+    let two = not_refused (ltb (length xs) (a + 2 * m + 1)) too_short _ v one.1 in
     let l : a + 2 * m + 1 ≤ length xs = ltb-false (length xs) (a + 2 * m + 1) two.0 in
     let n = length-append xs rest in
     rw (

@@ -18,7 +18,7 @@ use Rattle.octets.proofs.Put.{length_part}
 use Rattle.octets.proofs.Numbers.{number_be, same_eq}
 use Rattle.octets.proofs.FieldLaws.{last_read, octets_fields, fit_fields_lem}
 use Rattle.rules.specs.Elements as rules
-use Rattle.rules.specs.Elements.{Fqcsid, address_length, operator_allowed, node_type_kept, csids_read, count_allowed, checked_csid, csid_rest, read_fqcsid, value, refuse, tooShort, incorrect}
+use Rattle.rules.specs.Elements.{Fqcsid, address_length, operator_allowed, node_type_kept, csids_read, count_allowed, checked_csid, csid_rest, read_fqcsid, value, refuse, too_short, incorrect}
 use Rattle.rules.specs.Limits.{max_operator}
 use Rattle.element.specs.declared.Refusal.{Refusal}
 use Rattle.fqcsid.specs.declared.FqCsid.{FqCsid}
@@ -176,7 +176,7 @@ type_of s = get_or s 0 0 / 16
 abbrev pub count_in : List ℕ → ℕ
 count_in s = get_or s 0 0 % 16
 
-pub read_empty : (s : List ℕ) → length s ≡ 0 → read_fqcsid s ≡ refuse tooShort
+pub read_empty : (s : List ℕ) → length s ≡ 0 → read_fqcsid s ≡ refuse too_short
 unfolding read_fqcsid
 read_empty [] h = refl
 read_empty (x ∷ s) h = absurd (omega arith)
@@ -186,7 +186,7 @@ unfolding read_fqcsid
 read_type [] h l = absurd (not-suc-le-zero h)
 read_type (x ∷ s) h l = rw (lt-ltb 2 (x / 16) l)
 
-pub read_short : (s ws : List ℕ) → 0 < length s → type_of s ≤ 2 → ws ≡ fqcsid_widths (type_of s) (count_in s) → length s < width_of ws → read_fqcsid s ≡ refuse tooShort
+pub read_short : (s ws : List ℕ) → 0 < length s → type_of s ≤ 2 → ws ≡ fqcsid_widths (type_of s) (count_in s) → length s < width_of ws → read_fqcsid s ≡ refuse too_short
 unfolding read_fqcsid csid_rest
 read_short [] ws h t w l = absurd (not-suc-le-zero h)
 read_short (x ∷ s) ws h t w l =

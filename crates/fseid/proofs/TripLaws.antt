@@ -15,7 +15,7 @@ use Rattle.octets.proofs.Parts.{part_first}
 use Rattle.octets.proofs.Numbers.{bytes_be}
 use Rattle.octets.proofs.Put.{part_two}
 use Rattle.octets.proofs.Digits.{be_part, drop_octets}
-use Rattle.rules.specs.Elements.{address_of, fseid_length, seid_answer, read_fseid, fseid_octets, value, tooShort, incorrect}
+use Rattle.rules.specs.Elements.{address_of, fseid_length, seid_answer, read_fseid, fseid_octets, value, too_short, incorrect}
 use Rattle.laws.proofs.ElementLaws.{fseid_back}
 use Rattle.fseid.specs.declared.Answer.{Answer}
 use Rattle.fseid.specs.declared.Answer.TheVariants.{Value, Refused}
@@ -33,7 +33,7 @@ fseid_more [] rest n h = refused_is_not h
 fseid_more (f ∷ xs) rest n h =
     let l : ℕ = 8 + 4 * flag (bit 1 f) + 16 * flag (bit 0 f) in
     let one = not_refused (not (bit 0 f || bit 1 f)) incorrect _ n h in
-    let two = not_refused (ltb (length xs) l) tooShort _ n one.1 in
+    let two = not_refused (ltb (length xs) l) too_short _ n one.1 in
     let k : l ≤ length xs = ltb-false (length xs) l two.0 in
     let e = length-append xs rest in
     rw (one.0, le-ltb (length (xs ++ rest)) l (omega arith), part_front 0 8 xs rest (omega arith)) two.1
@@ -65,7 +65,7 @@ fseid_written_read (f ∷ xs) n o h p =
     let a : ℕ = flag (bit 1 f) in
     let b : ℕ = flag (bit 0 f) in
     let one = not_refused (not (bit 0 f || bit 1 f)) incorrect _ n h in
-    let two = not_refused (ltb (length xs) (8 + 4 * a + 16 * b)) tooShort _ n one.1 in
+    let two = not_refused (ltb (length xs) (8 + 4 * a + 16 * b)) too_short _ n one.1 in
     let s : List ℕ = f ∷ xs in
     let e : number (part 0 8 xs) ≡ n = seid_is (number (part 0 8 xs)) n two.1 in
     let w = p.whole in

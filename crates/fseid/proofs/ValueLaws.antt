@@ -13,11 +13,11 @@ use Rattle.octets.specs.Choice.{flag, is_nil}
 use Rattle.octets.specs.Octets.{put, be, bit, number, number_at, part}
 use Rattle.octets.proofs.Put.{set_put, next_put, put_whole}
 use Rattle.octets.proofs.Numbers.{length_be}
-use Rattle.rules.specs.Elements.{fseid_length, seid_answer, read_fseid, fseid_octets, write_if, refuse, value, tooShort, incorrect}
+use Rattle.rules.specs.Elements.{fseid_length, seid_answer, read_fseid, fseid_octets, write_if, refuse, value, too_short, incorrect}
 use Rattle.fseid.specs.Meaning.{fseid_flags}
 use Rattle.element.proofs.FlagLaws.{bit_number, bit_first, one_set, none_set}
 
-pub read_empty : (s : List ℕ) → length s ≡ 0 → read_fseid s ≡ refuse tooShort
+pub read_empty : (s : List ℕ) → length s ≡ 0 → read_fseid s ≡ refuse too_short
 unfolding read_fseid
 read_empty [] h = refl
 read_empty (x ∷ s) h = absurd (omega arith)
@@ -39,7 +39,7 @@ module _ (x : ℕ) (s : List ℕ) (family : x / 2 % 2 + x % 2 ≡ 0 → ⊥) whe
   unfolding fseid_length
   length_is = rw (bit_first x, bit_number 1 x)
 
-  first_short : length s < 8 + 4 * (x / 2 % 2) + 16 * (x % 2) → read_fseid (x ∷ s) ≡ refuse tooShort
+  first_short : length s < 8 + 4 * (x / 2 % 2) + 16 * (x % 2) → read_fseid (x ∷ s) ≡ refuse too_short
   unfolding read_fseid
   first_short l = rw (some_family, length_is, lt-ltb (length s) _ l)
 
@@ -48,7 +48,7 @@ module _ (x : ℕ) (s : List ℕ) (family : x / 2 % 2 + x % 2 ≡ 0 → ⊥) whe
   first_seid l = rw (some_family, length_is, le-ltb (length s) _ l)
 
 pub read_short : (s : List ℕ) → 0 < length s → (get_or s 0 0 / 2 % 2 + get_or s 0 0 % 2 ≡ 0 → ⊥) → length s < 9 + 4 * (get_or s 0 0 / 2 % 2) + 16 * (get_or s 0 0 % 2)
-    → read_fseid s ≡ refuse tooShort
+    → read_fseid s ≡ refuse too_short
 read_short [] h f l = absurd (not-suc-le-zero h)
 read_short (x ∷ s) h f l = first_short x s f (omega arith)
 

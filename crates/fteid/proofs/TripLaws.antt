@@ -13,7 +13,7 @@ use Rattle.octets.specs.Octets.{number, number_at, part, octet_at, octets}
 use Rattle.octets.specs.Fields.{width_of, fields_at, fit, field_octets}
 use Rattle.octets.proofs.Tests.{of_true}
 use Rattle.octets.proofs.FieldLaws.{first_written, fields_octets, octets_fields_all, first_read, elements_all, length_fields_at, fit_fields_lem}
-use Rattle.rules.specs.Elements.{Fteid, choose, v4_flag, v6_flag, ch_flag, chid_flag, wrong_flags, fteid_length, chosen_fields, given_fields, fteid_fields, read_fteid, fteid_allowed, fteid_octets, write_fteid, value, tooShort, incorrect}
+use Rattle.rules.specs.Elements.{Fteid, choose, v4_flag, v6_flag, ch_flag, chid_flag, wrong_flags, fteid_length, chosen_fields, given_fields, fteid_fields, read_fteid, fteid_allowed, fteid_octets, write_fteid, value, too_short, incorrect}
 use Rattle.laws.proofs.ElementLaws.{fteid_back}
 use Rattle.fteid.specs.declared.FTeid.{FTeid}
 use Rattle.fteid.specs.declared.Answer.{Answer}
@@ -55,7 +55,7 @@ unfolding read_fteid
 fteid_more e [] rest v h = refused_is_not h
 fteid_more e (f ∷ xs) rest v h =
     let one = not_refused (wrong_flags e f) incorrect _ v h in
-    let two = not_refused (ltb (length xs) (fteid_length f)) tooShort _ v one.1 in
+    let two = not_refused (ltb (length xs) (fteid_length f)) too_short _ v one.1 in
     let l : fteid_length f ≤ length xs = ltb-false (length xs) (fteid_length f) two.0 in
     let n = length-append xs rest in
     rw (one.0, le-ltb (length (xs ++ rest)) (fteid_length f) (omega arith), fields_more f xs rest l) two.1
@@ -113,7 +113,7 @@ unfolding read_fteid octet_at
 fteid_written_read e [] v o h p = refused_is_not h
 fteid_written_read e (f ∷ xs) v o h p =
     let one = not_refused (wrong_flags e f) incorrect _ v h in
-    let two = not_refused (ltb (length xs) (fteid_length f)) tooShort _ v one.1 in
+    let two = not_refused (ltb (length xs) (fteid_length f)) too_short _ v one.1 in
     let l : fteid_length f ≤ length xs = ltb-false (length xs) (fteid_length f) two.0 in
     let ws : List ℕ = fteid_widths f in
     let u : FTeid = fteid_in f (fields_at 0 ws (f ∷ xs)) in

@@ -20,7 +20,7 @@ use Rattle.octets.proofs.Digits.{be_part, octets_append}
 use Rattle.octets.proofs.FieldLaws.{octet_read}
 use Rattle.octets.proofs.Bools.{and-true, or-true, or-false}
 use Rattle.rules.specs.Elements as rules
-use Rattle.rules.specs.Elements.{Fteid, given, choose, v4_flag, v6_flag, ch_flag, chid_flag, wrong_flags, fteid_length, chosen_fields, given_fields, fteid_fields, address_of, given_tests, fteid_allowed, fteid_octets, read_fteid, write_fteid, write_if, refuse, value, tooShort, incorrect}
+use Rattle.rules.specs.Elements.{Fteid, given, choose, v4_flag, v6_flag, ch_flag, chid_flag, wrong_flags, fteid_length, chosen_fields, given_fields, fteid_fields, address_of, given_tests, fteid_allowed, fteid_octets, read_fteid, write_fteid, write_if, refuse, value, too_short, incorrect}
 use Rattle.element.specs.declared.Refusal.{Refusal}
 use Rattle.fteid.specs.declared.FTeid.{FTeid}
 use Rattle.fteid.specs.declared.Answer.{Answer}
@@ -318,7 +318,7 @@ pub right_anywhere : (e : Bool) (f : ℕ) → wrong_flags e f ≡ false → wron
 unfolding wrong_flags
 right_anywhere e f h = right_false (v4_flag f || v6_flag f) (ch_flag f) (chid_flag f) e h
 
-pub read_empty : (e : Bool) (s : List ℕ) → length s ≡ 0 → read_fteid e s ≡ refuse tooShort
+pub read_empty : (e : Bool) (s : List ℕ) → length s ≡ 0 → read_fteid e s ≡ refuse too_short
 unfolding read_fteid
 read_empty e [] h = refl
 read_empty e (x ∷ s) h = absurd (omega arith)
@@ -329,7 +329,7 @@ read_wrong e [] h w = absurd (not-suc-le-zero h)
 read_wrong e (x ∷ s) h w = rw (sym (low_wrong e x) ∙ w)
 
 pub read_short : (e : Bool) (s : List ℕ) → 0 < length s → wrong_flags e (get_or s 0 0 % 16) ≡ false → length s ≤ fteid_length (get_or s 0 0 % 16)
-    → read_fteid e s ≡ refuse tooShort
+    → read_fteid e s ≡ refuse too_short
 unfolding read_fteid
 read_short e [] h w l = absurd (not-suc-le-zero h)
 read_short e (x ∷ s) h w l = rw (sym (low_wrong e x) ∙ w, lt-ltb (length s) (fteid_length x) (rw low_length at l))

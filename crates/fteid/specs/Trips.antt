@@ -13,7 +13,7 @@ pub record WholeFteid (s : List ℕ) : Type 0 where
 
 -- in a traffic endpoint or not
 unfoldable pub FteidInverse : Type 0
-FteidInverse = (inEndpoint : Bool) → Inverse (read_fteid inEndpoint) WholeFteid (fteid_allowed inEndpoint) fteid_octets
+FteidInverse = (in_endpoint : Bool) → Inverse (read_fteid in_endpoint) WholeFteid (fteid_allowed in_endpoint) fteid_octets
 
 unfoldable pub FteidCodeInverse : Type 0
-FteidCodeInverse = (inEndpoint : Bool) → CodeInverse (read_fteid inEndpoint) WholeFteid (write_fteid inEndpoint) fteid_of fteid_answer Value
+FteidCodeInverse = (in_endpoint : Bool) → CodeInverse (read_fteid in_endpoint) WholeFteid (write_fteid in_endpoint) fteid_of fteid_answer Value

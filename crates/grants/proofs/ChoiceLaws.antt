@@ -18,7 +18,7 @@ use Rattle.octets.proofs.Tests.{pick_yes, and_left, all_head, all_tail}
 use Rattle.octets.proofs.ListLaws.{on_some, all_front, all_behind, map-append}
 use Rattle.rules.specs.Elements.{given, choose}
 use Rattle.rules.specs.Request.{Request}
-use Rattle.rules.specs.Grants.{Kind, ofPdr, ofEndpoint, Choice, same_kind, choice_of, endpoint_choice, pdr_choice, choices}
+use Rattle.rules.specs.Grants.{Kind, of_pdr, of_endpoint, Choice, same_kind, choice_of, endpoint_choice, pdr_choice, choices}
 use Rattle.plan.specs.Rows.{row_width, word, rows_of, tagged, fteid_from, row_fteid, row_local, row_pdr, row_endpoint, request_in}
 use Rattle.rules.specs.Types as ie
 use Rattle.plan.specs.Words as its
@@ -34,7 +34,7 @@ id_is_octet = on_some (λ i. ltb i 256)
 
 -- a CHOOSE ID is one octet, and so is an endpoint's ID
 abbrev pub choice_fits : Choice → Bool
-choice_fits c = id_is_octet c.choose_id && (same_kind ofPdr c.kind || ltb c.id 256)
+choice_fits c = id_is_octet c.choose_id && (same_kind of_pdr c.kind || ltb c.id 256)
 
 -- ---- one row
 
@@ -51,22 +51,22 @@ fteid_choice k i row = one (bit 2 (word its.flags row)) _ _ _ _ _ _
     one true v4 v6 c t a h = unfold choice_of in refl
     one false v4 v6 c t a h = unfold choice_of in refl
 
-endpoint_choice_lem : (row : List ℕ) → endpoint_choice (row_endpoint row) ≡ pick (bit 2 (word its.flags row)) (some (row_choice ofEndpoint (word its.endpoint_id row) row)) none
+endpoint_choice_lem : (row : List ℕ) → endpoint_choice (row_endpoint row) ≡ pick (bit 2 (word its.flags row)) (some (row_choice of_endpoint (word its.endpoint_id row) row)) none
 unfolding endpoint_choice row_endpoint
-endpoint_choice_lem row = fteid_choice ofEndpoint (word its.endpoint_id row) row
+endpoint_choice_lem row = fteid_choice of_endpoint (word its.endpoint_id row) row
 
 no_choice : bit 2 0 ≡ false
 unfolding bit
 no_choice = refl
 
-pdr_choice_lem : (row : List ℕ) → pdr_choice (row_pdr row) ≡ pick (bit 2 (word its.flags row)) (some (row_choice ofPdr (word its.pdr_id row) row)) none
+pdr_choice_lem : (row : List ℕ) → pdr_choice (row_pdr row) ≡ pick (bit 2 (word its.flags row)) (some (row_choice of_pdr (word its.pdr_id row) row)) none
 unfolding pdr_choice row_pdr row_local
 pdr_choice_lem row = one (ℕ_discrete (word its.flags row) 0)
   where
     one : Dec (word its.flags row ≡ 0)
-        → bind_option (pick (eqb (word its.flags row) 0) none (some (row_fteid row))) (choice_of ofPdr (word its.pdr_id row)) ≡ pick (bit 2 (word its.flags row)) (some (row_choice ofPdr (word its.pdr_id row) row)) none
-    one (yes e) = rw (eq-eqb (word its.flags row) 0 e) (sym (ap (λ (b : Bool). pick b (some (row_choice ofPdr (word its.pdr_id row) row)) none) (ap (bit 2) e ∙ no_choice)))
-    one (no n) = rw (ne_eqb (word its.flags row) 0 n) (fteid_choice ofPdr (word its.pdr_id row) row)
+        → bind_option (pick (eqb (word its.flags row) 0) none (some (row_fteid row))) (choice_of of_pdr (word its.pdr_id row)) ≡ pick (bit 2 (word its.flags row)) (some (row_choice of_pdr (word its.pdr_id row) row)) none
+    one (yes e) = rw (eq-eqb (word its.flags row) 0 e) (sym (ap (λ (b : Bool). pick b (some (row_choice of_pdr (word its.pdr_id row) row)) none) (ap (bit 2) e ∙ no_choice)))
+    one (no n) = rw (ne_eqb (word its.flags row) 0 n) (fteid_choice of_pdr (word its.pdr_id row) row)
 
 octet_id : (b : Bool) (c : ℕ) → T (id_is_octet (pick b (some c) none)) → pick b (some c) none ≡ pick b (octet c) none
 octet_id true c h = sym (pick_yes (ltb c 256) (some c) none h)
@@ -143,8 +143,8 @@ module _ (seid : ℕ) (restoring noted : Bool) (rows : List (List ℕ)) where
   request_choices f =
       let e = all_front choice_fits (collect endpoint_choice (map row_endpoint (tagged ie.create_endpoint rows))) (collect pdr_choice (map row_pdr (tagged ie.create_pdr rows))) f in
       let p = all_behind choice_fits (collect endpoint_choice (map row_endpoint (tagged ie.create_endpoint rows))) (collect pdr_choice (map row_pdr (tagged ie.create_pdr rows))) f in
-      let a = tagged_choices endpoint_choice row_endpoint ie.create_endpoint ofEndpoint (word its.endpoint_id) (unfold kind_in in refl) (λ row t. unfold row_id in rw t) endpoint_choice_lem rows e in
-      let b = tagged_choices pdr_choice row_pdr 1 ofPdr (word its.pdr_id) (unfold kind_in in refl) (λ row t. unfold row_id in rw t) pdr_choice_lem rows p in
+      let a = tagged_choices endpoint_choice row_endpoint ie.create_endpoint of_endpoint (word its.endpoint_id) (unfold kind_in in refl) (λ row t. unfold row_id in rw t) endpoint_choice_lem rows e in
+      let b = tagged_choices pdr_choice row_pdr 1 of_pdr (word its.pdr_id) (unfold kind_in in refl) (λ row t. unfold row_id in rw t) pdr_choice_lem rows p in
       (λ j. a j ++ b j) ∙ sym (map-append choice_in (keep (choosing ie.create_endpoint) rows) (keep (choosing 1) rows))
 
 -- the CHOOSEs at a plan's places are the request's

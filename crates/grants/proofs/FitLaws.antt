@@ -9,7 +9,7 @@ use Rattle.octets.specs.Lists.{all}
 use Rattle.octets.proofs.Tests.{both}
 use Rattle.octets.proofs.ListLaws.{OnSome, all_always, all_know}
 use Rattle.rules.specs.Reading.{read_request}
-use Rattle.rules.specs.Grants.{ofPdr, same_kind, choices}
+use Rattle.rules.specs.Grants.{of_pdr, same_kind, choices}
 use Rattle.laws.proofs.GrantLaws.{ChoiceRead, choices_read}
 use Rattle.grants.proofs.ChoiceLaws.{id_is_octet, choice_fits}
 
@@ -17,7 +17,7 @@ use Rattle.grants.proofs.ChoiceLaws.{id_is_octet, choice_fits}
 pub read_choices_fit : (msg : List ℕ) → T (are_bytes msg) → T (all choice_fits (choices (read_request msg)))
 read_choices_fit msg h =
     all_know ChoiceRead (λ _. true) choice_fits
-    (λ c r _. both (id_is_octet c.choose_id) (same_kind ofPdr c.kind || ltb c.id 256) (octet c.choose_id r.octet) r.endpoint_id) (choices (read_request msg)) (choices_read msg h)
+    (λ c r _. both (id_is_octet c.choose_id) (same_kind of_pdr c.kind || ltb c.id 256) (octet c.choose_id r.octet) r.endpoint_id) (choices (read_request msg)) (choices_read msg h)
     (all_always (λ _. true) (λ _. tt) (choices (read_request msg)))
   where
     octet : (o : Option ℕ) → OnSome (λ i. T (ltb i 256)) o → T (id_is_octet o)

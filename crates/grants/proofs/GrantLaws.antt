@@ -9,7 +9,7 @@ use Rattle.octets.specs.Lists.{has_repeat, all}
 use Rattle.rules.specs.Model.{Settings, Sessions, held_teids}
 use Rattle.rules.specs.Request.{Request}
 use Rattle.rules.specs.Stages.{created_pdrs, created_endpoints}
-use Rattle.rules.specs.Grants.{ofPdr, ofEndpoint, Grant, choices, grant_teid, grant_from, grants, granted_teid}
+use Rattle.rules.specs.Grants.{of_pdr, of_endpoint, Grant, choices, grant_teid, grant_from, grants, granted_teid}
 use Rattle.plan.specs.Rows.{row_width, word, rows_of, tagged, row_pdr, row_endpoint, request_in}
 use Rattle.rules.specs.Types as ie
 use Rattle.plan.specs.Words as its
@@ -79,10 +79,10 @@ module _ (seid : ℕ) (restoring noted : Bool) (n : ℕ) (plan : List ℕ) where
 
 -- ---- the TEID of a row that chooses, in the plan at exit
 
-pub pdr_teid : (gs : List Grant) (row : List ℕ) → length row ≡ row_width → choosing 1 row ≡ true → word its.teid (row_with gs row) ≡ granted_teid gs ofPdr (word its.pdr_id row)
+pub pdr_teid : (gs : List Grant) (row : List ℕ) → length row ≡ row_width → choosing 1 row ≡ true → word its.teid (row_with gs row) ≡ granted_teid gs of_pdr (word its.pdr_id row)
 unfolding row_id kind_in
 pdr_teid gs row l e = let t = choosing_tag 1 row e in with_teid_lem gs row l (rw e (or-true (choosing ie.create_endpoint row))) ∙ rw t
 
-pub endpoint_teid : (gs : List Grant) (row : List ℕ) → length row ≡ row_width → choosing ie.create_endpoint row ≡ true → word its.teid (row_with gs row) ≡ granted_teid gs ofEndpoint (word its.endpoint_id row)
+pub endpoint_teid : (gs : List Grant) (row : List ℕ) → length row ≡ row_width → choosing ie.create_endpoint row ≡ true → word its.teid (row_with gs row) ≡ granted_teid gs of_endpoint (word its.endpoint_id row)
 unfolding row_id kind_in
 endpoint_teid gs row l e = let t = choosing_tag ie.create_endpoint row e in with_teid_lem gs row l (rw e) ∙ rw t

@@ -9,7 +9,7 @@ use lib.Dec.{eqb}
 use Rattle.octets.specs.Choice.{pick}
 use Rattle.octets.specs.Lists.{member, has_repeat, any, keep, find_by}
 use Rattle.octets.proofs.Bools.{eqb_turn}
-use Rattle.rules.specs.Grants.{Kind, ofPdr, ofEndpoint, Choice, Chosen, Grant, same_kind, chosen_teid, teid_for, chosen_after, free_after, grant_from, grant_of, grant_teid, is_grant_for, granted_teid}
+use Rattle.rules.specs.Grants.{Kind, of_pdr, of_endpoint, Choice, Chosen, Grant, same_kind, chosen_teid, teid_for, chosen_after, free_after, grant_from, grant_of, grant_teid, is_grant_for, granted_teid}
 
 -- ---- of general use
 
@@ -62,15 +62,15 @@ Of k (c ∷ cs) = (c.kind ≡ k) × Of k cs
 
 same_refl : (k : Kind) → same_kind k k ≡ true
 unfolding same_kind
-same_refl ofPdr = refl
-same_refl ofEndpoint = refl
+same_refl of_pdr = refl
+same_refl of_endpoint = refl
 
 same_sym : (k l : Kind) → same_kind k l ≡ same_kind l k
 unfolding same_kind
-same_sym ofPdr ofPdr = refl
-same_sym ofPdr ofEndpoint = refl
-same_sym ofEndpoint ofPdr = refl
-same_sym ofEndpoint ofEndpoint = refl
+same_sym of_pdr of_pdr = refl
+same_sym of_pdr of_endpoint = refl
+same_sym of_endpoint of_pdr = refl
+same_sym of_endpoint of_endpoint = refl
 
 any_member : (k : Kind) (i : ℕ) (cs : List Choice) → Of k cs → any (same_as k i) cs ≡ member i (map id_of cs)
 unfolding any member
@@ -84,7 +84,7 @@ apart_kind k (c ∷ cs) o e =
     let f = or-false (member c.id (map id_of cs)) (has_repeat (map id_of cs)) e in
     (rw o.0 (any_member k c.id cs o.1 ∙ f.0), apart_kind k cs o.1 f.1)
 
-any_other : (i : ℕ) (cs : List Choice) → Of ofPdr cs → any (same_as ofEndpoint i) cs ≡ false
+any_other : (i : ℕ) (cs : List Choice) → Of of_pdr cs → any (same_as of_endpoint i) cs ≡ false
 unfolding any same_kind
 any_other i [] o = refl
 any_other i (c ∷ cs) o = rw o.0 (any_other i cs o.1)
@@ -95,7 +95,7 @@ any_append p [] ys e f = f
 any_append p (x ∷ xs) ys e f = let o = or-false (p x) (any p xs) e in rw (o.0, any_append p xs ys o.1 f)
 
 -- endpoints' choices and PDRs' are of different kinds
-pub apart_both : (es ps : List Choice) → Of ofEndpoint es → Of ofPdr ps → Apart es → Apart ps → Apart (es ++ ps)
+pub apart_both : (es ps : List Choice) → Of of_endpoint es → Of of_pdr ps → Apart es → Apart ps → Apart (es ++ ps)
 apart_both [] ps o q a b = b
 apart_both (c ∷ es) ps o q a b =
     (any_append (same_as c.kind c.id) es ps a.0 (rw o.0 (any_other c.id ps q)), apart_both es ps o.1 q a.1 b)

@@ -14,7 +14,7 @@ use Rattle.octets.specs.Lists.{has_repeat, keep}
 use Rattle.octets.specs.Rows.{has_tag}
 use Rattle.octets.proofs.ListLaws.{map-append}
 use Rattle.octets.proofs.FieldLaws.{both}
-use Rattle.rules.specs.Grants.{Kind, ofPdr, ofEndpoint, Choice, Chosen, Grant, grant_teid, grant_from, granted_teid}
+use Rattle.rules.specs.Grants.{Kind, of_pdr, of_endpoint, Choice, Chosen, Grant, grant_teid, grant_from, granted_teid}
 use Rattle.plan.specs.Rows.{row_width, word, rows_of, tagged}
 use Rattle.rules.specs.Types as ie
 use Rattle.plan.specs.Words as its
@@ -160,8 +160,8 @@ module _ (tag : ℕ) (k : Kind) (field : ℕ) (kinds : kind_in tag ≡ k) (ids :
 pub apart_rows : (rows : List (List ℕ)) → has_repeat (map (word its.pdr_id) (tagged ie.create_pdr rows)) ≡ false → has_repeat (map (word its.endpoint_id) (tagged ie.create_endpoint rows)) ≡ false → Apart (map choice_in (chosen_rows rows))
 unfolding chosen_rows
 apart_rows rows p e =
-    let a = apart_tag ie.create_endpoint ofEndpoint 11 (unfold kind_in in refl) (λ row t. unfold row_id in rw t) rows e in
-    let b = apart_tag 1 ofPdr 7 (unfold kind_in in refl) (λ row t. unfold row_id in rw t) rows p in
+    let a = apart_tag ie.create_endpoint of_endpoint 11 (unfold kind_in in refl) (λ row t. unfold row_id in rw t) rows e in
+    let b = apart_tag 1 of_pdr 7 (unfold kind_in in refl) (λ row t. unfold row_id in rw t) rows p in
     rw (map-append choice_in (keep (choosing ie.create_endpoint) rows) (keep (choosing 1) rows))
     (apart_both (map choice_in (keep (choosing ie.create_endpoint) rows)) (map choice_in (keep (choosing 1) rows)) a.1 b.1 a.0 b.0)
 

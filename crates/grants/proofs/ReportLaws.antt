@@ -19,9 +19,9 @@ use Rattle.octets.proofs.Tests.{all_cons}
 use Rattle.octets.proofs.ListLaws.{Every, all_append}
 use Rattle.laws.proofs.RequestLaws.{EndpointRead}
 use Rattle.rules.specs.Model.{Tunnel}
-use Rattle.rules.specs.Elements.{given, choose, ue_given, ueChoose, ueOther, ue_chooses}
+use Rattle.rules.specs.Elements.{given, choose, ue_given, ue_choose, ue_other, ue_chooses}
 use Rattle.rules.specs.Request.{Request}
-use Rattle.rules.specs.Grants.{Kind, ofPdr, ofEndpoint, Grant, Got, same_kind, granted_teid}
+use Rattle.rules.specs.Grants.{Kind, of_pdr, of_endpoint, Grant, Got, same_kind, granted_teid}
 use Rattle.rules.specs.Reply.{Report, chosen_tunnel, chosen_ip, pdr_report, endpoint_report, something_chosen, reports}
 use Rattle.rules.specs.Types as ie
 use Rattle.plan.specs.Rows.{row_width, word, rows_of, tagged, fteid_from, row_fteid, row_local, ue_from, row_ue, row_pdr, row_endpoint, request_in}
@@ -69,12 +69,12 @@ unfolding row_ue ue_from chosen_ip ue_chooses
 chosen_ip_lem a row = one (ℕ_discrete (word its.ue_kind row) 0) (ℕ_discrete (word its.ue_kind row) 1)
   where
     one : Dec (word its.ue_kind row ≡ 0) → Dec (word its.ue_kind row ≡ 1)
-        → bind_option (pick (eqb (word its.ue_kind row) 0) none (some (pick (eqb (word its.ue_kind row) 1) (ue_given (word its.ue_address row)) (pick (eqb (word its.ue_kind row) 2) ueChoose ueOther)))) (chosen_ip a) ≡ address_of a row
+        → bind_option (pick (eqb (word its.ue_kind row) 0) none (some (pick (eqb (word its.ue_kind row) 1) (ue_given (word its.ue_address row)) (pick (eqb (word its.ue_kind row) 2) ue_choose ue_other)))) (chosen_ip a) ≡ address_of a row
     one (yes e) d = rw e
     one (no n) (yes e) = rw e
     one (no n) (no m) = rw (ne_eqb (word its.ue_kind row) 0 n, ne_eqb (word its.ue_kind row) 1 m) (two (eqb (word its.ue_kind row) 2))
       where
-        two : (b : Bool) → chosen_ip a (pick b ueChoose ueOther) ≡ pick b (some a) none
+        two : (b : Bool) → chosen_ip a (pick b ue_choose ue_other) ≡ pick b (some a) none
         two true = refl
         two false = refl
 
@@ -191,7 +191,7 @@ module _ (gs : List Grant) (a : ℕ) where
       let t = tag_is ie.create_pdr row h in
       told_is row l (rw h (or-true (has_tag ie.create_endpoint row)))
       ∙ rw t
-      (let x = sym (local_tunnel_lem (granted_teid gs ofPdr (word its.pdr_id row)) row) in let y = sym (chosen_ip_lem a row) in λ j. record { id = word its.pdr_id row; local = x j; address = y j })
+      (let x = sym (local_tunnel_lem (granted_teid gs of_pdr (word its.pdr_id row)) row) in let y = sym (chosen_ip_lem a row) in λ j. record { id = word its.pdr_id row; local = x j; address = y j })
 
   endpoint_told : (row : List ℕ) → length row ≡ row_width → has_tag ie.create_endpoint row ≡ true → (row_told (row_got row)).report ≡ endpoint_report gets (row_endpoint row)
   unfolding endpoint_report row_endpoint row_id kind_in
@@ -199,18 +199,18 @@ module _ (gs : List Grant) (a : ℕ) where
       let t = tag_is ie.create_endpoint row h in
       told_is row l (rw h)
       ∙ rw t
-      (let x = sym (fteid_tunnel (granted_teid gs ofEndpoint (word its.endpoint_id row)) row) in let y = sym (chosen_ip_lem a row) in λ j. record { id = word its.endpoint_id row; local = x j; address = y j })
+      (let x = sym (fteid_tunnel (granted_teid gs of_endpoint (word its.endpoint_id row)) row) in let y = sym (chosen_ip_lem a row) in λ j. record { id = word its.endpoint_id row; local = x j; address = y j })
 
   pdr_something : (row : List ℕ) → something_chosen (pdr_report gets (row_pdr row)) ≡ (bit 2 (word its.flags row) || eqb (word its.ue_kind row) 2)
   unfolding something_chosen pdr_report row_pdr
   pdr_something row =
-      rw (local_tunnel_lem (granted_teid gs ofPdr (word its.pdr_id row)) row, chosen_ip_lem a row)
+      rw (local_tunnel_lem (granted_teid gs of_pdr (word its.pdr_id row)) row, chosen_ip_lem a row)
       (something_is (bit 2 (word its.flags row)) (eqb (word its.ue_kind row) 2) _ a)
 
   endpoint_something : (row : List ℕ) → something_chosen (endpoint_report gets (row_endpoint row)) ≡ (bit 2 (word its.flags row) || eqb (word its.ue_kind row) 2)
   unfolding something_chosen endpoint_report row_endpoint
   endpoint_something row =
-      rw (fteid_tunnel (granted_teid gs ofEndpoint (word its.endpoint_id row)) row, chosen_ip_lem a row)
+      rw (fteid_tunnel (granted_teid gs of_endpoint (word its.endpoint_id row)) row, chosen_ip_lem a row)
       (something_is (bit 2 (word its.flags row)) (eqb (word its.ue_kind row) 2) _ a)
 
   -- ---- all rows of a type
@@ -279,19 +279,19 @@ module _ (rows : List (List ℕ)) where
   abbrev pub tells : List Told
   tells = map row_told (keep (chosen_by true ie.create_endpoint) rows) ++ map row_told (keep (chosen_by true ie.create_pdr) rows)
 
-  told_pdrs : reports_of ofPdr tells ≡ map report_in (map row_told (keep (chosen_by true ie.create_pdr) rows))
+  told_pdrs : reports_of of_pdr tells ≡ map report_in (map row_told (keep (chosen_by true ie.create_pdr) rows))
   unfolding reports_of
   told_pdrs =
       ap (map report_in)
-      (keep_append (is_told ofPdr) (map row_told (keep (chosen_by true ie.create_endpoint) rows)) (map row_told (keep (chosen_by true ie.create_pdr) rows))
-      ∙ ap₂ (λ (x y : List Told). x ++ y) (told_kind ofPdr ie.create_endpoint false (unfold same_kind kind_in in refl) rows) (told_kind ofPdr ie.create_pdr true (unfold same_kind kind_in in refl) rows))
+      (keep_append (is_told of_pdr) (map row_told (keep (chosen_by true ie.create_endpoint) rows)) (map row_told (keep (chosen_by true ie.create_pdr) rows))
+      ∙ ap₂ (λ (x y : List Told). x ++ y) (told_kind of_pdr ie.create_endpoint false (unfold same_kind kind_in in refl) rows) (told_kind of_pdr ie.create_pdr true (unfold same_kind kind_in in refl) rows))
 
-  told_endpoints : reports_of ofEndpoint tells ≡ map report_in (map row_told (keep (chosen_by true ie.create_endpoint) rows))
+  told_endpoints : reports_of of_endpoint tells ≡ map report_in (map row_told (keep (chosen_by true ie.create_endpoint) rows))
   unfolding reports_of
   told_endpoints =
       ap (map report_in)
-      (keep_append (is_told ofEndpoint) (map row_told (keep (chosen_by true ie.create_endpoint) rows)) (map row_told (keep (chosen_by true ie.create_pdr) rows))
-      ∙ ap₂ (λ (x y : List Told). x ++ y) (told_kind ofEndpoint ie.create_endpoint true (unfold same_kind kind_in in refl) rows) (told_kind ofEndpoint ie.create_pdr false (unfold same_kind kind_in in refl) rows)
+      (keep_append (is_told of_endpoint) (map row_told (keep (chosen_by true ie.create_endpoint) rows)) (map row_told (keep (chosen_by true ie.create_pdr) rows))
+      ∙ ap₂ (λ (x y : List Told). x ++ y) (told_kind of_endpoint ie.create_endpoint true (unfold same_kind kind_in in refl) rows) (told_kind of_endpoint ie.create_pdr false (unfold same_kind kind_in in refl) rows)
       ∙ append-nil (map row_told (keep (chosen_by true ie.create_endpoint) rows)))
 
 -- ---- all reports
@@ -344,7 +344,7 @@ pdrs_fit_lem (row ∷ rows) = one (chosen_by true ie.create_pdr row) refl (pdrs_
         → T (all id_fits (map row_told (pick b (row ∷ keep (chosen_by true ie.create_pdr) rows) (keep (chosen_by true ie.create_pdr) rows))))
     one true e h =
         all_cons id_fits (row_told row) (map row_told (keep (chosen_by true ie.create_pdr) rows))
-        (unfold id_fits in (rw (kind_told ofPdr ie.create_pdr true (unfold same_kind kind_in in refl) row e) tt)) h
+        (unfold id_fits in (rw (kind_told of_pdr ie.create_pdr true (unfold same_kind kind_in in refl) row e) tt)) h
     one false e h = h
 
 endpoint_fits_lem : (row : List ℕ) → has_tag ie.create_endpoint row ≡ true → T (ltb (word its.endpoint_id row) 256) → T (id_fits (row_told row))

@@ -112,10 +112,10 @@ module _ {a b : List ℕ} (w : Alike a b) where
   same_pdr =
       let i = w.words 7 (λ z. omega arith) (λ z. omega arith) in
       let p = w.words 8 (λ z. omega arith) (λ z. omega arith) in
-      let hasFar = w.words 3 (λ z. omega arith) (λ z. omega arith) in
+      let has_far = w.words 3 (λ z. omega arith) (λ z. omega arith) in
       let far = w.words 9 (λ z. omega arith) (λ z. omega arith) in
       let source = w.words 10 (λ z. omega arith) (λ z. omega arith) in
-      let hasEnd = w.words 5 (λ z. omega arith) (λ z. omega arith) in
+      let has_end = w.words 5 (λ z. omega arith) (λ z. omega arith) in
       let end = w.words 11 (λ z. omega arith) (λ z. omega arith) in
       let flags = w.words 12 (λ z. omega arith) (λ z. omega arith) in
       let v = w.fteid in
@@ -123,10 +123,10 @@ module _ {a b : List ℕ} (w : Alike a b) where
       λ j. record {
         id = i j;
         precedence = p j;
-        far = pick (eqb (hasFar j) 1) (some (far j)) none;
+        far = pick (eqb (has_far j) 1) (some (far j)) none;
         source = source j;
         local = pick (eqb (flags j) 0) none (some (v j));
-        endpoint = pick (eqb (hasEnd j) 1) (some (end j)) none;
+        endpoint = pick (eqb (has_end j) 1) (some (end j)) none;
         address = ue j;
       }
 
@@ -140,13 +140,13 @@ module _ {a b : List ℕ} (w : Alike a b) where
       let i = w.words 7 (λ z. omega arith) (λ z. omega arith) in
       let has_p = w.words 2 (λ z. omega arith) (λ z. omega arith) in
       let p = w.words 8 (λ z. omega arith) (λ z. omega arith) in
-      let hasFar = w.words 3 (λ z. omega arith) (λ z. omega arith) in
+      let has_far = w.words 3 (λ z. omega arith) (λ z. omega arith) in
       let far = w.words 9 (λ z. omega arith) (λ z. omega arith) in
       let pdi = w.words 6 (λ z. omega arith) (λ z. omega arith) in
       λ j. record {
         id = i j;
         precedence = pick (eqb (has_p j) 1) (some (p j)) none;
-        far = pick (eqb (hasFar j) 2) (some none) (pick (eqb (hasFar j) 1) (some (some (far j))) none);
+        far = pick (eqb (has_far j) 2) (some none) (pick (eqb (has_far j) 1) (some (some (far j))) none);
         pdi = eqb (pdi j) 1;
       }
 
@@ -222,8 +222,8 @@ module _ (h : List ℕ → List ℕ) (alike : (row : List ℕ) → Alike (h row)
       let gone_pdrs = tagged_map 15 row_pdr_id (λ row. (alike row).words 7 (λ z. omega arith) (λ z. omega arith)) rows in
       let gone_endpoints = tagged_map ie.remove_endpoint row_endpoint_id (λ row. (alike row).words 11 (λ z. omega arith) (λ z. omega arith)) rows in
       let pdis = tagged_any 9 row_pdi (λ row. same_pdi (alike row)) rows in
-      let pdrsStrange = tagged_any ie.create_pdr row_strange (λ row. same_strange (alike row)) rows in
-      let endpointsStrange = tagged_any ie.create_endpoint row_strange (λ row. same_strange (alike row)) rows in
+      let pdrs_strange = tagged_any ie.create_pdr row_strange (λ row. same_strange (alike row)) rows in
+      let endpoints_strange = tagged_any ie.create_endpoint row_strange (λ row. same_strange (alike row)) rows in
       λ j. record {
         seid = seid;
         restoring = restoring;
@@ -233,6 +233,6 @@ module _ (h : List ℕ → List ℕ) (alike : (row : List ℕ) → Alike (h row)
         gone_pdrs = gone_pdrs j;
         gone_endpoints = gone_endpoints j;
         csids = pick (nulls_same rows j) cleared (changed (csids_same rows j));
-        unsupported = noted || pdis j || pdrsStrange j || endpointsStrange j;
+        unsupported = noted || pdis j || pdrs_strange j || endpoints_strange j;
         listed = [];
       }

@@ -19,7 +19,7 @@ use Rattle.rules.specs.Sound.{sessions_allowed, in_pool}
 use Rattle.rules.specs.Message.{kind_of, deletion, set_deletion}
 use Rattle.rules.specs.Reading.{read_request}
 use Rattle.rules.specs.Request.{Request}
-use Rattle.rules.specs.Grants.{Kind, ofPdr, ofEndpoint, grants, granted_teid, chosen_address, Got, granted}
+use Rattle.rules.specs.Grants.{Kind, of_pdr, of_endpoint, grants, granted_teid, chosen_address, Got, granted}
 use Rattle.rules.specs.Stages.{same_choice, addresses_of, verdict, entry_session}
 use Rattle.rules.specs.Elements.{UeIp, ue_chooses}
 use Rattle.rules.specs.Reply.{chosen_ip, pdr_report, endpoint_report, reports}
@@ -94,8 +94,8 @@ module _ (t : List ℕ) (who : ℕ) (msg space : List ℕ) where
     pub teids : (k : Kind) (i : ℕ) → created_teid out.space k i ≡ granted_teid (grants s m r) k i
     pub allocated : Allocates s m r
     -- the address of each record that chooses one
-    pub pdr_addresses : Every (λ p. T (chooses_address p.address) → created_address out.space ofPdr p.id ≡ chosen_address s m) r.pdrs
-    pub endpoint_addresses : Every (λ e. T (chooses_address e.address) → created_address out.space ofEndpoint e.id ≡ chosen_address s m) r.endpoints
+    pub pdr_addresses : Every (λ p. T (chooses_address p.address) → created_address out.space of_pdr p.id ≡ chosen_address s m) r.pdrs
+    pub endpoint_addresses : Every (λ e. T (chooses_address e.address) → created_address out.space of_endpoint e.id ≡ chosen_address s m) r.endpoints
 
   -- the sessions after it keep the rules
   after_allowed : T (octets msg) → Answers t who msg space → Passed s who m msg → T (sessions_allowed s (sessions_after s who m msg))
@@ -130,19 +130,19 @@ module _ (t : List ℕ) (who : ℕ) (msg space : List ℕ) where
     unfolding created_got
     address_said k i = ap {B = ℕ} (λ (g : Got). g.address) (got_there ho a c k i)
 
-    pdr_addresses_there : Every (λ q. T (chooses_address q.address) → created_address (answer s who m msg space t).space ofPdr q.id ≡ chosen_address s m) r.pdrs
+    pdr_addresses_there : Every (λ q. T (chooses_address q.address) → created_address (answer s who m msg space t).space of_pdr q.id ≡ chosen_address s m) r.pdrs
     unfolding pdr_report
     pdr_addresses_there =
-        every_imply (λ q. T (is_some (report_address (pdr_report (granted s m r) q))) → (said (reports (granted s m r) r) ofPdr q.id).address ≡ chosen_address s m)
-        (λ q. T (chooses_address q.address) → created_address (answer s who m msg space t).space ofPdr q.id ≡ chosen_address s m)
-        (λ q f g. address_said ofPdr q.id ∙ f (reported _ q.address g)) r.pdrs (said_pdr_addresses s m r (rules p).created_pdrs_once (rules p).created_endpoints_once)
+        every_imply (λ q. T (is_some (report_address (pdr_report (granted s m r) q))) → (said (reports (granted s m r) r) of_pdr q.id).address ≡ chosen_address s m)
+        (λ q. T (chooses_address q.address) → created_address (answer s who m msg space t).space of_pdr q.id ≡ chosen_address s m)
+        (λ q f g. address_said of_pdr q.id ∙ f (reported _ q.address g)) r.pdrs (said_pdr_addresses s m r (rules p).created_pdrs_once (rules p).created_endpoints_once)
 
-    endpoint_addresses_there : Every (λ q. T (chooses_address q.address) → created_address (answer s who m msg space t).space ofEndpoint q.id ≡ chosen_address s m) r.endpoints
+    endpoint_addresses_there : Every (λ q. T (chooses_address q.address) → created_address (answer s who m msg space t).space of_endpoint q.id ≡ chosen_address s m) r.endpoints
     unfolding endpoint_report
     endpoint_addresses_there =
-        every_imply (λ q. T (is_some (report_address (endpoint_report (granted s m r) q))) → (said (reports (granted s m r) r) ofEndpoint q.id).address ≡ chosen_address s m)
-        (λ q. T (chooses_address q.address) → created_address (answer s who m msg space t).space ofEndpoint q.id ≡ chosen_address s m)
-        (λ q f g. address_said ofEndpoint q.id ∙ f (reported _ q.address g)) r.endpoints (said_endpoint_addresses s m r (rules p).created_pdrs_once (rules p).created_endpoints_once)
+        every_imply (λ q. T (is_some (report_address (endpoint_report (granted s m r) q))) → (said (reports (granted s m r) r) of_endpoint q.id).address ≡ chosen_address s m)
+        (λ q. T (chooses_address q.address) → created_address (answer s who m msg space t).space of_endpoint q.id ≡ chosen_address s m)
+        (λ q f g. address_said of_endpoint q.id ∙ f (reported _ q.address g)) r.endpoints (said_endpoint_addresses s m r (rules p).created_pdrs_once (rules p).created_endpoints_once)
 
   -- outcome 0 and the reply's cause 1
   pub accepted_call : T (octets msg) → T (accepted_event (replied who msg out.outcome out.space)) → AcceptedCall
@@ -166,9 +166,9 @@ module _ (t : List ℕ) (who : ℕ) (msg space : List ℕ) where
         sessions = ap view_sessions table' ∙ sessions_back s hs (sessions_after s who m msg) ok;
         teids = λ k i. ap (λ (o : Served). created_teid o.space k i) e ∙ teids_there ho a p cause k i;
         allocated = passed_allocates s who m msg a.peer (table_kept t a.table).sessions p;
-        pdr_addresses = subst (λ (o : Served). Every (λ q. T (chooses_address q.address) → created_address o.space ofPdr q.id ≡ chosen_address s m) r.pdrs) (sym e) (pdr_addresses_there ho a p cause);
+        pdr_addresses = subst (λ (o : Served). Every (λ q. T (chooses_address q.address) → created_address o.space of_pdr q.id ≡ chosen_address s m) r.pdrs) (sym e) (pdr_addresses_there ho a p cause);
         endpoint_addresses =
-            subst (λ (o : Served). Every (λ q. T (chooses_address q.address) → created_address o.space ofEndpoint q.id ≡ chosen_address s m) r.endpoints) (sym e) (endpoint_addresses_there ho a p cause);
+            subst (λ (o : Served). Every (λ q. T (chooses_address q.address) → created_address o.space of_endpoint q.id ≡ chosen_address s m) r.endpoints) (sym e) (endpoint_addresses_there ho a p cause);
       }
 
   -- ---- the reply, and the next call on the table that it leaves
@@ -192,15 +192,15 @@ module _ (t : List ℕ) (who : ℕ) (msg space : List ℕ) where
         (λ d. created_teid out.space d.choice.kind d.choice.id ≡ d.teid) (λ d e. c.teids d.choice.kind d.choice.id ∙ e) c.allocated.given c.allocated.looked_up
 
     -- the reply gives two PDRs with one CHOOSE ID one TEID
-    pub reply_shares : T (all_pairs (λ p q. not (same_choice (pdr_choose_id p) (pdr_choose_id q)) || eqb (created_teid out.space ofPdr p.id) (created_teid out.space ofPdr q.id)) r.pdrs)
+    pub reply_shares : T (all_pairs (λ p q. not (same_choice (pdr_choose_id p) (pdr_choose_id q)) || eqb (created_teid out.space of_pdr p.id) (created_teid out.space of_pdr q.id)) r.pdrs)
     reply_shares =
         pairs_imply (λ p q. not (same_choice (pdr_choose_id p) (pdr_choose_id q)) || eqb (looked p.id) (looked q.id))
-        (λ p q. not (same_choice (pdr_choose_id p) (pdr_choose_id q)) || eqb (created_teid out.space ofPdr p.id) (created_teid out.space ofPdr q.id))
-        (λ p q h. subst T (ap₂ (λ (i j : ℕ). not (same_choice (pdr_choose_id p) (pdr_choose_id q)) || eqb i j) (sym (c.teids ofPdr p.id)) (sym (c.teids ofPdr q.id))) h) r.pdrs
+        (λ p q. not (same_choice (pdr_choose_id p) (pdr_choose_id q)) || eqb (created_teid out.space of_pdr p.id) (created_teid out.space of_pdr q.id))
+        (λ p q h. subst T (ap₂ (λ (i j : ℕ). not (same_choice (pdr_choose_id p) (pdr_choose_id q)) || eqb i j) (sym (c.teids of_pdr p.id)) (sym (c.teids of_pdr q.id))) h) r.pdrs
         (pdrs_share s m r c.allocated)
       where
         looked : ℕ → ℕ
-        looked = granted_teid (grants s m r) ofPdr
+        looked = granted_teid (grants s m r) of_pdr
 
     -- any TEID of the pool that no record holds afterwards
     pub next_free_lem : (n : ℕ) → T (in_pool s n) → T (not (member n (held_teids (view_sessions out.table))))

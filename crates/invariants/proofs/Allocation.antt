@@ -21,7 +21,7 @@ use Rattle.rules.specs.Model.{Settings, Sessions, held_teids, free_teids}
 use Rattle.rules.specs.Elements.{Fteid, given, choose, choose_id_of}
 use Rattle.rules.specs.Sound.{in_pool}
 use Rattle.rules.specs.Request.{NewPdr, Request}
-use Rattle.rules.specs.Grants.{Kind, ofPdr, Choice, Chosen, choice_of, endpoint_choice, pdr_choice, choices, chosen, is_choice, chosen_teid, remember, teid_for, free_after, chosen_after, grants, granted_teid, need}
+use Rattle.rules.specs.Grants.{Kind, of_pdr, Choice, Chosen, choice_of, endpoint_choice, pdr_choice, choices, chosen, is_choice, chosen_teid, remember, teid_for, free_after, chosen_after, grants, granted_teid, need}
 use Rattle.rules.specs.Stages.{same_choice}
 use Rattle.laws.proofs.NeedLaws.{is_fresh, noted, need_from, enough_given}
 use Rattle.invariants.proofs.GrantLaws.{Matches, matches_new, matches_old}
@@ -268,10 +268,10 @@ pdr_choose_id p = bind_option p.local choose_id_of
 
 -- two PDRs with one CHOOSE ID have one TEID
 pub pdrs_share : (s : Settings) (m : Sessions) (r : Request) → Allocates s m r
-    → T (all_pairs (λ p q. not (same_choice (pdr_choose_id p) (pdr_choose_id q)) || eqb (granted_teid (grants s m r) ofPdr p.id) (granted_teid (grants s m r) ofPdr q.id)) r.pdrs)
+    → T (all_pairs (λ p q. not (same_choice (pdr_choose_id p) (pdr_choose_id q)) || eqb (granted_teid (grants s m r) of_pdr p.id) (granted_teid (grants s m r) of_pdr q.id)) r.pdrs)
 unfolding choices pdr_choice
 pdrs_share s m r a =
-    pairs_imply (λ p q. on_both alike (pdr_choice p) (pdr_choice q)) (λ p q. not (same_choice (pdr_choose_id p) (pdr_choose_id q)) || eqb (teid ofPdr p.id) (teid ofPdr q.id))
+    pairs_imply (λ p q. on_both alike (pdr_choice p) (pdr_choice q)) (λ p q. not (same_choice (pdr_choose_id p) (pdr_choose_id q)) || eqb (teid of_pdr p.id) (teid of_pdr q.id))
     (λ p q h. one p.id q.id p.local q.local h) r.pdrs
     (subst T (pairs_collect pdr_choice alike r.pdrs)
     (pairs_behind alike (collect endpoint_choice r.endpoints) (collect pdr_choice r.pdrs)
@@ -287,10 +287,10 @@ pdrs_share s m r a =
     alike : Choice → Choice → Bool
     alike c d = not (same_choice c.choose_id d.choose_id) || eqb (teid c.kind c.id) (teid d.kind d.id)
 
-    one : (i j : ℕ) (v w : Option Fteid) → T (on_both alike (bind_option v (choice_of ofPdr i)) (bind_option w (choice_of ofPdr j)))
-        → T (not (same_choice (bind_option v choose_id_of) (bind_option w choose_id_of)) || eqb (teid ofPdr i) (teid ofPdr j))
+    one : (i j : ℕ) (v w : Option Fteid) → T (on_both alike (bind_option v (choice_of of_pdr i)) (bind_option w (choice_of of_pdr j)))
+        → T (not (same_choice (bind_option v choose_id_of) (bind_option w choose_id_of)) || eqb (teid of_pdr i) (teid of_pdr j))
     one i j none w h = unfold same_choice in tt
     one i j (some (given t a b)) w h = unfold choose_id_of same_choice in tt
-    one i j (some (choose a b c)) none h = unfold choose_id_of in (or_by_left (not (same_choice c none)) (eqb (teid ofPdr i) (teid ofPdr j)) (subst (λ (k : Bool). T (not k)) (sym (no_choice c)) tt))
-    one i j (some (choose a b c)) (some (given t d e)) h = unfold choose_id_of in (or_by_left (not (same_choice c none)) (eqb (teid ofPdr i) (teid ofPdr j)) (subst (λ (k : Bool). T (not k)) (sym (no_choice c)) tt))
+    one i j (some (choose a b c)) none h = unfold choose_id_of in (or_by_left (not (same_choice c none)) (eqb (teid of_pdr i) (teid of_pdr j)) (subst (λ (k : Bool). T (not k)) (sym (no_choice c)) tt))
+    one i j (some (choose a b c)) (some (given t d e)) h = unfold choose_id_of in (or_by_left (not (same_choice c none)) (eqb (teid of_pdr i) (teid of_pdr j)) (subst (λ (k : Bool). T (not k)) (sym (no_choice c)) tt))
     one i j (some (choose a b c)) (some (choose d e f)) h = unfold choose_id_of choice_of in h

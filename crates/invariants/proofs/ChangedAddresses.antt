@@ -16,7 +16,7 @@ use Rattle.octets.proofs.ListLaws.{or_right, or_by_left, or_by_right, by_test, o
 use Rattle.octets.proofs.MemberLaws.{absent_part, none_in, in_none, kept_key}
 use Rattle.invariants.proofs.InsertLaws.{collect_perm}
 use Rattle.rules.specs.Model.{Settings, Session, Sessions, pdr_id, endpoint_id, session_teids, held_teids, free_teids, pdr_address, endpoint_address, in_address_pool, session_addresses, held_addresses, free_addresses}
-use Rattle.rules.specs.Elements.{UeIp, ue_given, ueChoose, ueOther, ue_address_of, ue_chooses}
+use Rattle.rules.specs.Elements.{UeIp, ue_given, ue_choose, ue_other, ue_address_of, ue_chooses}
 use Rattle.rules.specs.Sound.{apart}
 use Rattle.rules.specs.Request.{Request}
 use Rattle.rules.specs.Grants.{granted, chosen_address, need}
@@ -130,8 +130,8 @@ module _ (s : Settings) (m : Sessions) (x : Session) (r : Request) (rules : Rule
     where
       one : (v : UeIp) → T (on_some (when_kept (in_address_pool s) unheld) (ue_address_of v)) → T (not (ue_chooses v) || unheld (chosen_address s m)) → T (on_some (when_kept (in_address_pool s) unheld) (address_got (chosen_address s m) v))
       one (ue_given a) h g = unfold address_got ue_address_of in h
-      one ueChoose h g = unfold address_got in (or_by_right (not (in_address_pool s (chosen_address s m))) (unheld (chosen_address s m)) (unfold ue_chooses in g))
-      one ueOther h g = unfold address_got in tt
+      one ue_choose h g = unfold address_got in (or_by_right (not (in_address_pool s (chosen_address s m))) (unheld (chosen_address s m)) (unfold ue_chooses in g))
+      one ue_other h g = unfold address_got in tt
 
   -- a session that had no address of the pool in common with the one at entry has none in common with the changed one
   addresses_apart : (z : Session) → T (all (λ n. member n (held_addresses s m)) (session_addresses s z)) → T (not (any_in (session_addresses s x) (session_addresses s z)))

@@ -96,8 +96,8 @@ module _ (r : Request) (x : Session) where
       (stay_map qe endpoint_holding (λ a. all (u a) ps) x.endpoints (pairs_across u es ps h)))
 
 -- what is taken from the records of the changed session, list by list (holds or addresses): from the new ones and from those that stay
-module _ {B : Type 0} (fe : List Endpoint → List B) (fp : List Pdr → List B) (joinE : (xs ys : List Endpoint) → fe (xs ++ ys) ≡ fe xs ++ fe ys) (joinP : (xs ys : List Pdr) → fp (xs ++ ys) ≡ fp xs ++ fp ys)
-    (permE : (xs ys : List Endpoint) → Permᴰ xs ys → Permᴰ (fe xs) (fe ys)) (permP : (xs ys : List Pdr) → Permᴰ xs ys → Permᴰ (fp xs) (fp ys))
+module _ {B : Type 0} (fe : List Endpoint → List B) (fp : List Pdr → List B) (join_endpoints : (xs ys : List Endpoint) → fe (xs ++ ys) ≡ fe xs ++ fe ys) (join_pdrs : (xs ys : List Pdr) → fp (xs ++ ys) ≡ fp xs ++ fp ys)
+    (perm_endpoints : (xs ys : List Endpoint) → Permᴰ xs ys → Permᴰ (fe xs) (fe ys)) (perm_pdrs : (xs ys : List Pdr) → Permᴰ xs ys → Permᴰ (fp xs) (fp ys))
     (same : (cs : List Change) (ps : List Pdr) → fp (update_all cs ps) ≡ fp ps) where
   pub changed_parts : (got : Kind → ℕ → Got) (r : Request) (x : Session)
       → Permᴰ (fe (endpoints_after got r x.endpoints) ++ fp (pdrs_after got r x.pdrs))
@@ -105,18 +105,18 @@ module _ {B : Type 0} (fe : List Endpoint → List B) (fp : List Pdr → List B)
       ++ (fe (keep (kept_key endpoint_id r.gone_endpoints) x.endpoints) ++ fp (keep (kept_key pdr_id (removed_pdrs r x.pdrs)) x.pdrs)))
   unfolding endpoints_after pdrs_after kept_pdr kept_endpoint
   changed_parts got r x =
-      let newE = map (made_endpoint got) r.endpoints in
-      let newP = map (made_pdr got) r.pdrs in
-      let oldE = keep (kept_key endpoint_id r.gone_endpoints) x.endpoints in
-      let oldP = keep (kept_key pdr_id (removed_pdrs r x.pdrs)) x.pdrs in
-      let es = after endpoint_id r.gone_endpoints newE x.endpoints in
-      let ps = after pdr_id (removed_pdrs r x.pdrs) newP x.pdrs in
-      subst (λ (l : List B). Permᴰ (fe es ++ l) ((fe newE ++ fp newP) ++ (fe oldE ++ fp oldP))) (sym (same r.changes ps))
+      let made_endpoints = map (made_endpoint got) r.endpoints in
+      let made_pdrs = map (made_pdr got) r.pdrs in
+      let left_endpoints = keep (kept_key endpoint_id r.gone_endpoints) x.endpoints in
+      let left_pdrs = keep (kept_key pdr_id (removed_pdrs r x.pdrs)) x.pdrs in
+      let es = after endpoint_id r.gone_endpoints made_endpoints x.endpoints in
+      let ps = after pdr_id (removed_pdrs r x.pdrs) made_pdrs x.pdrs in
+      subst (λ (l : List B). Permᴰ (fe es ++ l) ((fe made_endpoints ++ fp made_pdrs) ++ (fe left_endpoints ++ fp left_pdrs))) (sym (same r.changes ps))
       (Permᴰ.trans
-      (subst (λ (l : List B). Permᴰ (fe es ++ fp ps) (fe newE ++ fe oldE ++ l)) (joinP newP oldP)
-      (subst (λ (l : List B). Permᴰ (fe es ++ fp ps) (l ++ fp (newP ++ oldP))) (joinE newE oldE)
-      (append_perm (permE es (newE ++ oldE) (after_perm endpoint_id r.gone_endpoints newE x.endpoints)) (permP ps (newP ++ oldP) (after_perm pdr_id (removed_pdrs r x.pdrs) newP x.pdrs)))))
-      (swap_inner (fe newE) (fe oldE) (fp newP) (fp oldP)))
+      (subst (λ (l : List B). Permᴰ (fe es ++ fp ps) (fe made_endpoints ++ fe left_endpoints ++ l)) (join_pdrs made_pdrs left_pdrs)
+      (subst (λ (l : List B). Permᴰ (fe es ++ fp ps) (l ++ fp (made_pdrs ++ left_pdrs))) (join_endpoints made_endpoints left_endpoints)
+      (append_perm (perm_endpoints es (made_endpoints ++ left_endpoints) (after_perm endpoint_id r.gone_endpoints made_endpoints x.endpoints)) (perm_pdrs ps (made_pdrs ++ left_pdrs) (after_perm pdr_id (removed_pdrs r x.pdrs) made_pdrs x.pdrs)))))
+      (swap_inner (fe made_endpoints) (fe left_endpoints) (fp made_pdrs) (fp left_pdrs)))
 
 -- the changed session's holds: the new ones and those that stay
 pub changed_holds : (got : Kind → ℕ → Got) (r : Request) (x : Session) → Permᴰ (session_holdings (apply got r x)) (new_holdings got r ++ staying_holdings r x)

@@ -18,10 +18,10 @@ use Rattle.octets.proofs.MemberLaws.{all_in_lem, kept_key, member_front, member_
 use Rattle.invariants.proofs.RecordsAfter.{after, after_length, after_ascending, after_all_lem, after_keys}
 use Rattle.rules.specs.Model.{Settings, Match, neither, tunnel, endpoint, Pdr, Endpoint, Session, Sessions, free_teids, pdr_id, endpoint_id, matched_endpoint, pdr_endpoint, pdr_holding, pdr_address}
 use Rattle.rules.specs.Limits.{max_pdrs, max_endpoints}
-use Rattle.rules.specs.Elements.{Fteid, UeIp, ue_given, ueChoose, ueOther, ue_address_of}
+use Rattle.rules.specs.Elements.{Fteid, UeIp, ue_given, ue_choose, ue_other, ue_address_of}
 use Rattle.rules.specs.Sound.{tunnel_allowed, match_allowed, far_allowed, address_allowed, pdr_allowed, endpoint_allowed}
 use Rattle.rules.specs.Request.{Change, Request}
-use Rattle.rules.specs.Grants.{Kind, ofPdr, grants, granted_teid, chosen_address, Got, granted, need}
+use Rattle.rules.specs.Grants.{Kind, of_pdr, grants, granted_teid, chosen_address, Got, granted, need}
 use Rattle.rules.specs.Stages.{named_endpoint, created_pdrs, created_endpoints, live_pdrs, live_endpoints, endpoint_ids_after, removed_pdrs}
 use Rattle.rules.specs.Apply.{named_match, match_from, address_got, address_from, made_pdr, made_endpoint, or_old, changed_pdr, update_all, kept_pdr, kept_endpoint, pdrs_after, endpoints_after, pdr_with}
 use Rattle.laws.proofs.ReadLaws.{UeRead}
@@ -101,8 +101,8 @@ address_made : (n : ℕ) → T (ltb n (2 ^ 32)) → (o : Option UeIp) → OnSome
 unfolding address_allowed address_from address_got ue_address_of
 address_made n h none k = tt
 address_made n h (some (ue_given a)) k = k
-address_made n h (some ueChoose) k = h
-address_made n h (some ueOther) k = tt
+address_made n h (some ue_choose) k = h
+address_made n h (some ue_other) k = tt
 
 -- ---- a session that keeps the rules, and a request that keeps them and finds room
 
@@ -237,8 +237,8 @@ module _ (kind : ℕ) (s : Settings) (who : ℕ) (m : Sessions) (x : Session) (r
       (subst T (all_collect named_endpoint (λ n. member n (endpoint_ids_after x r)) r.pdrs) (all_in_lem (collect named_endpoint r.pdrs) (endpoint_ids_after x r) rules.named_there))))
     where
       matched : (i a : ℕ) (o : Option Fteid) (e : Option ℕ) → OnSome (λ n. T (ltb n 256)) e
-          → T (on_some (λ l. tunnel_allowed s (local_tunnel teids l)) (map_option (λ v. record { kind = ofPdr; id = i; source = a; fteid = v }) o)) → T (on_some (λ n. member n (endpoint_ids_after x r)) e)
-          → T (match_allowed s live_after (match_from (teids ofPdr i) o e))
+          → T (on_some (λ l. tunnel_allowed s (local_tunnel teids l)) (map_option (λ v. record { kind = of_pdr; id = i; source = a; fteid = v }) o)) → T (on_some (λ n. member n (endpoint_ids_after x r)) e)
+          → T (match_allowed s live_after (match_from (teids of_pdr i) o e))
       matched i a (some v) e k h g = unfold match_from match_allowed in h
       matched i a none none k h g = unfold match_from named_match match_allowed in tt
       matched i a none (some n) k h g = unfold match_from named_match match_allowed in (both (ltb n 256) (member n live_after) k (named_live n g))

@@ -19,7 +19,7 @@ use Rattle.rules.specs.Elements.{fteid_octets, unit_fteid, ue_given, ue_octets, 
 use Rattle.rules.specs.Sound.{settings_allowed}
 use Rattle.rules.specs.Message.{Element, elements, has_type, content_in, content_of, number_width, field, field_or0, kind_of, establishment, header_length, set_deletion}
 use Rattle.laws.proofs.MessageLaws.{Fits, el, after, elements_cons, elements_nil, written, as_element, as_elements, after_all, elements_map}
-use Rattle.rules.specs.Grants.{Kind, ofPdr, ofEndpoint, Got}
+use Rattle.rules.specs.Grants.{Kind, of_pdr, of_endpoint, Got}
 use Rattle.rules.specs.Stages.{Verdict}
 use Rattle.rules.specs.Reply.{Report, Reports, element, unit_element, tunnel_part, address_part, chosen_elements, created_pdr_content, created_pdr_element, created_endpoint_content, created_endpoint_element, created, offending_element, node_id_element, unit_fseid, accepted_part, reply_body, reply}
 use Rattle.laws.proofs.ReplyLaws.{reply_elements_lem, sequence_three, reply_cause_lem}
@@ -58,8 +58,8 @@ said_in o = record { teid = value_or 0 (bind_option o report_teid); address = va
 
 -- the reports of a kind
 abbrev pub reports_of : Kind → Reports → List Report
-reports_of ofPdr gs = gs.pdrs
-reports_of ofEndpoint gs = gs.endpoints
+reports_of of_pdr gs = gs.pdrs
+reports_of of_endpoint gs = gs.endpoints
 
 -- what the reports say of a kind and ID
 unfoldable pub said : Reports → Kind → ℕ → Got
@@ -161,39 +161,39 @@ module _ (s : Settings) (hs : T (settings_allowed s)) where
   unfolding teid_in address_in content_of find_by number_at number
   value_none = ap got_in (elements_nil 0)
 
-  no_pdr_here : (i at : ℕ) (gs : List Report) → find_by (is_created ofPdr i) (as_endpoints at gs) ≡ none
+  no_pdr_here : (i at : ℕ) (gs : List Report) → find_by (is_created of_pdr i) (as_endpoints at gs) ≡ none
   unfolding find_by is_created created_type has_type as_element as_elements
   no_pdr_here i at [] = refl
   no_pdr_here i at (g ∷ gs) = no_pdr_here i (after at (created_endpoint_content s g)) gs
 
-  skip_pdrs : (i at : ℕ) (gs : List Report) (es : List Element) → find_by (is_created ofEndpoint i) (as_pdrs at gs ++ es) ≡ find_by (is_created ofEndpoint i) es
+  skip_pdrs : (i at : ℕ) (gs : List Report) (es : List Element) → find_by (is_created of_endpoint i) (as_pdrs at gs ++ es) ≡ find_by (is_created of_endpoint i) es
   unfolding find_by is_created created_type has_type as_element as_elements
   skip_pdrs i at [] es = refl
   skip_pdrs i at (g ∷ gs) es = skip_pdrs i (after at (created_pdr_content s g)) gs es
 
-  found_pdr : (i at : ℕ) (gs : List Report) → T (all report_fits gs) → (es : List Element) → find_by (is_created ofPdr i) es ≡ none
-      → value_of (find_by (is_created ofPdr i) (as_pdrs at gs ++ es)) ≡ said_in (find_by (has_id i) gs)
+  found_pdr : (i at : ℕ) (gs : List Report) → T (all report_fits gs) → (es : List Element) → find_by (is_created of_pdr i) es ≡ none
+      → value_of (find_by (is_created of_pdr i) (as_pdrs at gs ++ es)) ≡ said_in (find_by (has_id i) gs)
   unfolding find_by is_created created_type id_element has_type as_element as_elements has_id
   found_pdr i at [] h es e = ap value_of e ∙ value_none
   found_pdr i at (g ∷ gs) h es e =
       let ok = all_head report_fits g gs h in
       let next = after at (created_pdr_content s g) in
-      ap (λ (n : ℕ). value_of (pick (eqb n i) (some (el at ie.created_pdr (created_pdr_content s g))) (find_by (is_created ofPdr i) (as_pdrs next gs ++ es)))) (pdr_id_lem g ok)
-      ∙ one (eqb g.id i) (find_by (is_created ofPdr i) (as_pdrs next gs ++ es)) (find_by (has_id i) gs) (pdr_says g ok) (found_pdr i next gs (all_tail report_fits g gs h) es e)
+      ap (λ (n : ℕ). value_of (pick (eqb n i) (some (el at ie.created_pdr (created_pdr_content s g))) (find_by (is_created of_pdr i) (as_pdrs next gs ++ es)))) (pdr_id_lem g ok)
+      ∙ one (eqb g.id i) (find_by (is_created of_pdr i) (as_pdrs next gs ++ es)) (find_by (has_id i) gs) (pdr_says g ok) (found_pdr i next gs (all_tail report_fits g gs h) es e)
     where
       one : (b : Bool) (o : Option Element) (p : Option Report) → got_in (elements 0 (created_pdr_content s g)) ≡ said_in (some g) → value_of o ≡ said_in p
           → value_of (pick b (some (el at ie.created_pdr (created_pdr_content s g))) o) ≡ said_in (pick b (some g) p)
       one true o p a c = a
       one false o p a c = c
 
-  found_endpoint : (i at : ℕ) (gs : List Report) → T (all report_fits gs) → value_of (find_by (is_created ofEndpoint i) (as_endpoints at gs)) ≡ said_in (find_by (has_id i) gs)
+  found_endpoint : (i at : ℕ) (gs : List Report) → T (all report_fits gs) → value_of (find_by (is_created of_endpoint i) (as_endpoints at gs)) ≡ said_in (find_by (has_id i) gs)
   unfolding find_by is_created created_type id_element has_type as_element as_elements has_id
   found_endpoint i at [] h = value_none
   found_endpoint i at (g ∷ gs) h =
       let ok = all_head report_fits g gs h in
       let next = after at (created_endpoint_content s g) in
-      ap (λ (n : ℕ). value_of (pick (eqb n i) (some (el at ie.created_endpoint (created_endpoint_content s g))) (find_by (is_created ofEndpoint i) (as_endpoints next gs)))) (endpoint_id_lem g)
-      ∙ one (eqb g.id i) (find_by (is_created ofEndpoint i) (as_endpoints next gs)) (find_by (has_id i) gs) (endpoint_says g ok) (found_endpoint i next gs (all_tail report_fits g gs h))
+      ap (λ (n : ℕ). value_of (pick (eqb n i) (some (el at ie.created_endpoint (created_endpoint_content s g))) (find_by (is_created of_endpoint i) (as_endpoints next gs)))) (endpoint_id_lem g)
+      ∙ one (eqb g.id i) (find_by (is_created of_endpoint i) (as_endpoints next gs)) (find_by (has_id i) gs) (endpoint_says g ok) (found_endpoint i next gs (all_tail report_fits g gs h))
     where
       one : (b : Bool) (o : Option Element) (p : Option Report) → got_in (elements 0 (created_endpoint_content s g)) ≡ said_in (some g) → value_of o ≡ said_in p
           → value_of (pick b (some (el at ie.created_endpoint (created_endpoint_content s g))) o) ≡ said_in (pick b (some g) p)
@@ -209,13 +209,13 @@ module _ (s : Settings) (hs : T (settings_allowed s)) where
   skip_one : (k : Kind) (i : ℕ) (n : Got) (t : ℕ) (v more : List ℕ) → Fits t v → eqb t ie.created_pdr ≡ false → eqb t ie.created_endpoint ≡ false
       → Gives k i n more → Gives k i n (element t v ++ more)
   unfolding find_by is_created has_type created_type
-  skip_one ofPdr i n t v more fits e8 e128 h at =
-      ap (λ (es : List Element). value_of (find_by (is_created ofPdr i) es)) (elements_cons t v more fits at)
-      ∙ ap (λ (b : Bool). value_of (pick (b && eqb (field_or0 (id_element ofPdr) (elements 0 v)) i) (some (el at t v)) (find_by (is_created ofPdr i) (elements (after at v) more)))) e8
+  skip_one of_pdr i n t v more fits e8 e128 h at =
+      ap (λ (es : List Element). value_of (find_by (is_created of_pdr i) es)) (elements_cons t v more fits at)
+      ∙ ap (λ (b : Bool). value_of (pick (b && eqb (field_or0 (id_element of_pdr) (elements 0 v)) i) (some (el at t v)) (find_by (is_created of_pdr i) (elements (after at v) more)))) e8
       ∙ h (after at v)
-  skip_one ofEndpoint i n t v more fits e8 e128 h at =
-      ap (λ (es : List Element). value_of (find_by (is_created ofEndpoint i) es)) (elements_cons t v more fits at)
-      ∙ ap (λ (b : Bool). value_of (pick (b && eqb (field_or0 (id_element ofEndpoint) (elements 0 v)) i) (some (el at t v)) (find_by (is_created ofEndpoint i) (elements (after at v) more)))) e128
+  skip_one of_endpoint i n t v more fits e8 e128 h at =
+      ap (λ (es : List Element). value_of (find_by (is_created of_endpoint i) es)) (elements_cons t v more fits at)
+      ∙ ap (λ (b : Bool). value_of (pick (b && eqb (field_or0 (id_element of_endpoint) (elements 0 v)) i) (some (el at t v)) (find_by (is_created of_endpoint i) (elements (after at v) more)))) e128
       ∙ h (after at v)
 
   skip_if : (k : Kind) (i : ℕ) (n : Got) (b : Bool) (t : ℕ) (v more : List ℕ) → Fits t v → eqb t ie.created_pdr ≡ false → eqb t ie.created_endpoint ≡ false
@@ -262,11 +262,11 @@ module _ (s : Settings) (hs : T (settings_allowed s)) where
     -- what is read of the Created groups is what the reports say
     created_value : (k : Kind) (i : ℕ) → Gives k i (said gs k i) (created s gs)
     unfolding said
-    created_value ofPdr i at =
-        ap (λ (es : List Element). value_of (find_by (is_created ofPdr i) es)) (created_elements at)
+    created_value of_pdr i at =
+        ap (λ (es : List Element). value_of (find_by (is_created of_pdr i) es)) (created_elements at)
         ∙ found_pdr i at gs.pdrs fits.0 (as_endpoints (endpoints_from at) gs.endpoints) (no_pdr_here i (endpoints_from at) gs.endpoints)
-    created_value ofEndpoint i at =
-        ap (λ (es : List Element). value_of (find_by (is_created ofEndpoint i) es)) (created_elements at)
+    created_value of_endpoint i at =
+        ap (λ (es : List Element). value_of (find_by (is_created of_endpoint i) es)) (created_elements at)
         ∙ ap value_of (skip_pdrs i at gs.pdrs (as_endpoints (endpoints_from at) gs.endpoints))
         ∙ found_endpoint i (endpoints_from at) gs.endpoints fits.1
 

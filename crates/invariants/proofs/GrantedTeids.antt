@@ -17,7 +17,7 @@ use Rattle.octets.proofs.Tests.{both, all_head, all_tail, all_cons, is_true, is_
 use Rattle.octets.proofs.Ordered.{pairs_head, pairs_tail, pairs_cons}
 use Rattle.octets.proofs.ListLaws.{by_test, or_right, or_by_left, or_by_right, Every, all_every, all_imply, found_passes, found_knows, found_related}
 use Rattle.octets.proofs.MemberLaws.{differ_turn, absent_each, each_absent}
-use Rattle.rules.specs.Grants.{Kind, ofPdr, ofEndpoint, same_kind, Choice, Chosen, Grant, chosen, is_choice, chosen_teid, remember, grant_of, teid_for, free_after, chosen_after, grant_from, grant_teid, is_grant_for, granted_teid}
+use Rattle.rules.specs.Grants.{Kind, of_pdr, of_endpoint, same_kind, Choice, Chosen, Grant, chosen, is_choice, chosen_teid, remember, grant_of, teid_for, free_after, chosen_after, grant_from, grant_teid, is_grant_for, granted_teid}
 use Rattle.rules.specs.Stages.{same_choice}
 use Rattle.laws.proofs.NeedLaws.{is_fresh, noted, need_from}
 use Rattle.invariants.proofs.GrantLaws.{Matches, matches_new, matches_old, next_ok}
@@ -245,8 +245,8 @@ other_record c d = not (same_kind d.kind c.kind && eqb c.id d.id)
 -- a kind is the same as itself
 same_kind_lem : (k : Kind) → same_kind k k ≡ true
 unfolding same_kind
-same_kind_lem ofPdr = refl
-same_kind_lem ofEndpoint = refl
+same_kind_lem of_pdr = refl
+same_kind_lem of_endpoint = refl
 
 -- what is found for a record is what its CHOOSE was given
 pub own_teid_lem : (ds : List Granted) → T (all_pairs (λ a b. other_record a.choice b.choice) ds) → Every (λ d. granted_teid (map as_grant ds) d.choice.kind d.choice.id ≡ d.teid) ds

@@ -13,7 +13,7 @@ use Rattle.octets.proofs.MemberLaws.{once_differ}
 use Rattle.rules.specs.Model.{Tunnel, Holding, matched_tunnel, tunnel_holding, pdr_holding, endpoint_holding}
 use Rattle.rules.specs.Elements.{Fteid, given, choose}
 use Rattle.rules.specs.Request.{NewPdr, NewEndpoint, Request}
-use Rattle.rules.specs.Grants.{Kind, ofPdr, ofEndpoint, same_kind, Choice, choice_of, endpoint_choice, pdr_choice, choices, Got}
+use Rattle.rules.specs.Grants.{Kind, of_pdr, of_endpoint, same_kind, Choice, choice_of, endpoint_choice, pdr_choice, choices, Got}
 use Rattle.rules.specs.Stages.{new_pdr_id, new_endpoint_id, pdr_local, created_pdrs, created_endpoints, fteids_of, fteids_may_share, locals_may_share, choices_agree, restored_holding, endpoint_restored, pdr_restored, restored_holdings}
 use Rattle.rules.specs.Apply.{tunnel_from, named_match, match_from, made_pdr, made_endpoint}
 use Rattle.laws.proofs.ReadLaws.{FteidRead}
@@ -29,16 +29,16 @@ pub record Local : Type 0 where
 
 -- a PDR's hold may be shared, an endpoint's not
 abbrev pub shared : Kind → Bool
-shared ofPdr = true
-shared ofEndpoint = false
+shared of_pdr = true
+shared of_endpoint = false
 
 -- the F-TEID of a Create Traffic Endpoint
 abbrev pub endpoint_new : NewEndpoint → Local
-endpoint_new e = record { kind = ofEndpoint; id = e.id; source = 0; fteid = e.local }
+endpoint_new e = record { kind = of_endpoint; id = e.id; source = 0; fteid = e.local }
 
 -- the F-TEID of a Create PDR, if it has one
 abbrev pub pdr_new : NewPdr → Option Local
-pdr_new p = map_option (λ v. record { kind = ofPdr; id = p.id; source = p.source; fteid = v }) p.local
+pdr_new p = map_option (λ v. record { kind = of_pdr; id = p.id; source = p.source; fteid = v }) p.local
 
 -- all of them, endpoints first
 unfoldable pub locals : Request → List Local
@@ -83,7 +83,7 @@ module _ (r : Request) where
       (collect_same pdr_choice (λ p. bind_option (pdr_new p) local_choice) (λ p. one p p.local) r.pdrs ∙ sym (collect_collect pdr_new local_choice r.pdrs))
       ∙ sym (collect_append local_choice (map endpoint_new r.endpoints) (collect pdr_new r.pdrs))
     where
-      one : (p : NewPdr) (o : Option Fteid) → bind_option o (choice_of ofPdr p.id) ≡ bind_option (map_option (λ v. record { kind = ofPdr; id = p.id; source = p.source; fteid = v }) o) local_choice
+      one : (p : NewPdr) (o : Option Fteid) → bind_option o (choice_of of_pdr p.id) ≡ bind_option (map_option (λ v. record { kind = of_pdr; id = p.id; source = p.source; fteid = v }) o) local_choice
       one p none = refl
       one p (some v) = refl
 
@@ -95,7 +95,7 @@ module _ (r : Request) where
       (collect_same pdr_restored (λ p. bind_option (pdr_new p) local_restored) (λ p. one p p.local) r.pdrs ∙ sym (collect_collect pdr_new local_restored r.pdrs))
       ∙ sym (collect_append local_restored (map endpoint_new r.endpoints) (collect pdr_new r.pdrs))
     where
-      one : (p : NewPdr) (o : Option Fteid) → bind_option o (restored_holding true p.source) ≡ bind_option (map_option (λ v. record { kind = ofPdr; id = p.id; source = p.source; fteid = v }) o) local_restored
+      one : (p : NewPdr) (o : Option Fteid) → bind_option o (restored_holding true p.source) ≡ bind_option (map_option (λ v. record { kind = of_pdr; id = p.id; source = p.source; fteid = v }) o) local_restored
       one p none = refl
       one p (some v) = refl
 
@@ -107,7 +107,7 @@ module _ (r : Request) where
       (collect_same pdr_local (λ p. map_option local_fteid (pdr_new p)) (λ p. one p p.local) r.pdrs ∙ sym (map_collect pdr_new local_fteid r.pdrs))
       ∙ sym (map-append local_fteid (map endpoint_new r.endpoints) (collect pdr_new r.pdrs))
     where
-      one : (p : NewPdr) (o : Option Fteid) → o ≡ map_option local_fteid (map_option (λ v. record { kind = ofPdr; id = p.id; source = p.source; fteid = v }) o)
+      one : (p : NewPdr) (o : Option Fteid) → o ≡ map_option local_fteid (map_option (λ v. record { kind = of_pdr; id = p.id; source = p.source; fteid = v }) o)
       one p none = refl
       one p (some v) = refl
 
@@ -122,8 +122,8 @@ module _ (r : Request) where
       ∙ sym (map-append (local_holding (teids_of got)) (map endpoint_new r.endpoints) (collect pdr_new r.pdrs))
     where
       one : (p : NewPdr) (o : Option Fteid) (e : Option ℕ)
-          → map_option (tunnel_holding true p.source) (matched_tunnel (match_from (got ofPdr p.id).teid o e))
-          ≡ map_option (local_holding (teids_of got)) (map_option (λ v. record { kind = ofPdr; id = p.id; source = p.source; fteid = v }) o)
+          → map_option (tunnel_holding true p.source) (matched_tunnel (match_from (got of_pdr p.id).teid o e))
+          ≡ map_option (local_holding (teids_of got)) (map_option (λ v. record { kind = of_pdr; id = p.id; source = p.source; fteid = v }) o)
       one p none none = unfold match_from named_match matched_tunnel in refl
       one p none (some e) = unfold match_from named_match matched_tunnel in refl
       one p (some v) e = unfold match_from matched_tunnel in refl
@@ -139,7 +139,7 @@ locals_read r he hp =
     (every_collect pdr_new PdrRead (λ l. FteidRead (not (shared l.kind)) l.fteid) (λ p k. one p p.local k.local) r.pdrs hp)
   where
     one : (p : NewPdr) (o : Option Fteid) → OnSome (FteidRead false) o
-        → OnSome (λ (l : Local). FteidRead (not (shared l.kind)) l.fteid) (map_option (λ v. record { kind = ofPdr; id = p.id; source = p.source; fteid = v }) o)
+        → OnSome (λ (l : Local). FteidRead (not (shared l.kind)) l.fteid) (map_option (λ v. record { kind = of_pdr; id = p.id; source = p.source; fteid = v }) o)
     one p none k = tt
     one p (some v) k = k
 
@@ -166,12 +166,12 @@ choices_other r hp he =
     (pairs_imply other_local (λ a b. on_both other_record (local_choice a) (local_choice b)) (λ a b h. choose_other a.kind b.kind a.id b.id a.fteid b.fteid h) (locals r) ids))
   where
     pdr_pair : (i j a b : ℕ) (o p : Option Fteid) → T (not (eqb i j))
-        → T (on_both other_local (map_option (λ v. record { kind = ofPdr; id = i; source = a; fteid = v }) o) (map_option (λ v. record { kind = ofPdr; id = j; source = b; fteid = v }) p))
+        → T (on_both other_local (map_option (λ v. record { kind = of_pdr; id = i; source = a; fteid = v }) o) (map_option (λ v. record { kind = of_pdr; id = j; source = b; fteid = v }) p))
     pdr_pair i j a b none p h = tt
     pdr_pair i j a b (some v) none h = tt
     pdr_pair i j a b (some v) (some w) h = unfold same_kind in h
 
-    cross : (e : NewEndpoint) (i a : ℕ) (o : Option Fteid) → T (on_some (other_local (endpoint_new e)) (map_option (λ v. record { kind = ofPdr; id = i; source = a; fteid = v }) o))
+    cross : (e : NewEndpoint) (i a : ℕ) (o : Option Fteid) → T (on_some (other_local (endpoint_new e)) (map_option (λ v. record { kind = of_pdr; id = i; source = a; fteid = v }) o))
     cross e i a none = tt
     cross e i a (some v) = unfold same_kind in tt
 
@@ -200,11 +200,11 @@ locals_alike r h =
     (λ e p. cross e p.id p.source p.local)
   where
     one : (i j a b : ℕ) (o p : Option Fteid) → T (locals_may_share o a p b)
-        → T (on_both alike_locals (map_option (λ v. record { kind = ofPdr; id = i; source = a; fteid = v }) o) (map_option (λ v. record { kind = ofPdr; id = j; source = b; fteid = v }) p))
+        → T (on_both alike_locals (map_option (λ v. record { kind = of_pdr; id = i; source = a; fteid = v }) o) (map_option (λ v. record { kind = of_pdr; id = j; source = b; fteid = v }) p))
     one i j a b none p g = tt
     one i j a b (some v) none g = tt
     one i j a b (some v) (some w) g = unfold locals_may_share in g
 
-    cross : (e : NewEndpoint) (i a : ℕ) (o : Option Fteid) → T (on_some (alike_locals (endpoint_new e)) (map_option (λ v. record { kind = ofPdr; id = i; source = a; fteid = v }) o))
+    cross : (e : NewEndpoint) (i a : ℕ) (o : Option Fteid) → T (on_some (alike_locals (endpoint_new e)) (map_option (λ v. record { kind = of_pdr; id = i; source = a; fteid = v }) o))
     cross e i a none = tt
     cross e i a (some v) = tt

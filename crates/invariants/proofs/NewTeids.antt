@@ -17,7 +17,7 @@ use Rattle.rules.specs.Model.{Settings, Session, Sessions, Holding, teid_of, tun
 use Rattle.rules.specs.Elements.{Fteid, given, choose, has_v4, has_v6, chooses, choose_id_of}
 use Rattle.rules.specs.Sound.{in_pool, unit_families, tunnel_allowed, share_tests, agree}
 use Rattle.rules.specs.Request.{Request}
-use Rattle.rules.specs.Grants.{Kind, ofPdr, ofEndpoint, Choice, Grant, choice_of, choices, grants, granted_teid, granted, need}
+use Rattle.rules.specs.Grants.{Kind, of_pdr, of_endpoint, Choice, Grant, choice_of, choices, grants, granted_teid, granted, need}
 use Rattle.rules.specs.Stages.{fteids_of, allocation_wrong, invalid_allocation, same_choice, alike_fteids, fteids_may_share, lacks_family, other_address, strange, restored_holding, restored_holdings}
 use Rattle.rules.specs.Apply.{tunnel_from}
 use Rattle.invariants.proofs.PoolLaws.{free_in_pool, free_not_held}
@@ -94,13 +94,13 @@ sharing k k' a b t u c d e f o p rv rw' g al =
 
     one : (k k' : Kind) → FteidRead (not (shared k)) (choose c d o) → FteidRead (not (shared k')) (choose e f p)
         → T (not (shared k) || (not (shared k') || fteids_may_share (choose c d o) a (choose e f p) b)) → T (same_choice o p) → T (all_of (share_tests (first k) (second k')))
-    one ofEndpoint k' rv rw' al h = unfold choose_id_of same_choice in (absurd (subst (λ (q : Option ℕ). T (same_choice q p)) (rv.no_choose_id tt) h))
-    one ofPdr ofEndpoint rv rw' al h = unfold choose_id_of in (absurd (subst T (no_choice o) (subst (λ (q : Option ℕ). T (same_choice o q)) (rw'.no_choose_id tt) h)))
-    one ofPdr ofPdr rv rw' al h =
+    one of_endpoint k' rv rw' al h = unfold choose_id_of same_choice in (absurd (subst (λ (q : Option ℕ). T (same_choice q p)) (rv.no_choose_id tt) h))
+    one of_pdr of_endpoint rv rw' al h = unfold choose_id_of in (absurd (subst T (no_choice o) (subst (λ (q : Option ℕ). T (same_choice o q)) (rw'.no_choose_id tt) h)))
+    one of_pdr of_pdr rv rw' al h =
         unfold fteids_may_share alike_fteids has_v4 has_v6 choose_id_of in (
         let both' = or_right (not (same_choice o p)) ((same_bool c e && same_bool d f) && eqb a b) al (not_T (not (same_choice o p)) (λ n. T_not (same_choice o p) n h)) in
         let alike = and_left (same_bool c e && same_bool d f) (eqb a b) both' in
-        share_tests_lem {h = first ofPdr} {k = second ofPdr}
+        share_tests_lem {h = first of_pdr} {k = second of_pdr}
         (record { first = tt; second = tt; v4 = and_left (same_bool c e) (same_bool d f) alike; v6 = and_right (same_bool c e) (same_bool d f) alike; source = and_right (same_bool c e && same_bool d f) (eqb a b) both' }))
 
 -- ---- the F-TEIDs of a request that keeps the rules

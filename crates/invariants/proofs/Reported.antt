@@ -14,10 +14,10 @@ use Rattle.octets.proofs.Ordered.{pairs_head, pairs_tail}
 use Rattle.octets.proofs.ListLaws.{Every, OnSome, on_some, every_imply, or_by_left, or_by_right, all_imply, all_append, all_always, none_any, all_collect, pairs_map}
 use Rattle.octets.proofs.MemberLaws.{once_differ}
 use Rattle.rules.specs.Model.{Settings, Tunnel, Pdr, Endpoint, Sessions, pdr_id, endpoint_id, key_for}
-use Rattle.rules.specs.Elements.{Fteid, given, choose, UeIp, ue_given, ueChoose, ueOther, ue_chooses}
+use Rattle.rules.specs.Elements.{Fteid, given, choose, UeIp, ue_given, ue_choose, ue_other, ue_chooses}
 use Rattle.rules.specs.Message.{deletion, set_deletion}
 use Rattle.rules.specs.Request.{NewPdr, NewEndpoint, Request}
-use Rattle.rules.specs.Grants.{Kind, ofPdr, ofEndpoint, same_kind, Choice, Chosen, Grant, choice_of, endpoint_choice, pdr_choice, choices, chosen_teid, grant_of, teid_for, free_after, chosen_after, grant_from, grants, grant_teid, is_grant_for, granted_teid, chosen_address, Got, granted}
+use Rattle.rules.specs.Grants.{Kind, of_pdr, of_endpoint, same_kind, Choice, Chosen, Grant, choice_of, endpoint_choice, pdr_choice, choices, chosen_teid, grant_of, teid_for, free_after, chosen_after, grant_from, grants, grant_teid, is_grant_for, granted_teid, chosen_address, Got, granted}
 use Rattle.rules.specs.Stages.{new_pdr_id, new_endpoint_id, created_pdrs, created_endpoints, removed_pdrs, at_entry}
 use Rattle.rules.specs.Apply.{tunnel_from, match_from, address_got, address_from, made_pdr, made_endpoint, update_all, follow_csids, kept_pdr, kept_endpoint, pdrs_after, endpoints_after, apply, remove_session, put_session, stays_session, follow, pdr_by}
 use Rattle.rules.specs.Reply.{Report, chosen_tunnel, chosen_ip, pdr_report, endpoint_report, something_chosen, reports}
@@ -122,7 +122,7 @@ none_granted k i cs free (c ∷ l) h =
 
 -- ---- the reports of a request whose records have IDs of their own
 
-module _ (s : Settings) (m : Sessions) (r : Request) (oncePdrs : T (not (has_repeat (created_pdrs r)))) (onceEndpoints : T (not (has_repeat (created_endpoints r)))) where
+module _ (s : Settings) (m : Sessions) (r : Request) (once_pdrs : T (not (has_repeat (created_pdrs r)))) (once_endpoints : T (not (has_repeat (created_endpoints r)))) where
   -- what its records get
   abbrev got : Kind → ℕ → Got
   got = granted s m r
@@ -137,11 +137,11 @@ module _ (s : Settings) (m : Sessions) (r : Request) (oncePdrs : T (not (has_rep
 
   apart_pdrs : T (all_pairs (λ (p q : NewPdr). not (eqb p.id q.id)) r.pdrs)
   unfolding created_pdrs
-  apart_pdrs = subst T (pairs_map new_pdr_id (λ a b. not (eqb a b)) r.pdrs) (once_differ (map new_pdr_id r.pdrs) oncePdrs)
+  apart_pdrs = subst T (pairs_map new_pdr_id (λ a b. not (eqb a b)) r.pdrs) (once_differ (map new_pdr_id r.pdrs) once_pdrs)
 
   apart_endpoints : T (all_pairs (λ (e f : NewEndpoint). not (eqb e.id f.id)) r.endpoints)
   unfolding created_endpoints
-  apart_endpoints = subst T (pairs_map new_endpoint_id (λ a b. not (eqb a b)) r.endpoints) (once_differ (map new_endpoint_id r.endpoints) onceEndpoints)
+  apart_endpoints = subst T (pairs_map new_endpoint_id (λ a b. not (eqb a b)) r.endpoints) (once_differ (map new_endpoint_id r.endpoints) once_endpoints)
 
   pdr_key : (p : NewPdr) → (pdr_report got p).id ≡ new_pdr_id p
   unfolding pdr_report
@@ -158,17 +158,17 @@ module _ (s : Settings) (m : Sessions) (r : Request) (oncePdrs : T (not (has_rep
   tunnel_says t (given n a b) = tt
   tunnel_says t (choose v4 v6 i) = refl
 
-  pdr_says : (p : NewPdr) → OnSome (λ n. n ≡ teids ofPdr p.id) (report_teid (pdr_report got p))
+  pdr_says : (p : NewPdr) → OnSome (λ n. n ≡ teids of_pdr p.id) (report_teid (pdr_report got p))
   unfolding pdr_report granted
   pdr_says p = one p.local
     where
-      one : (o : Option Fteid) → OnSome (λ n. n ≡ teids ofPdr p.id) (map_option (λ (u : Tunnel). u.teid) (bind_option o (chosen_tunnel (teids ofPdr p.id))))
+      one : (o : Option Fteid) → OnSome (λ n. n ≡ teids of_pdr p.id) (map_option (λ (u : Tunnel). u.teid) (bind_option o (chosen_tunnel (teids of_pdr p.id))))
       one none = tt
-      one (some v) = tunnel_says (teids ofPdr p.id) v
+      one (some v) = tunnel_says (teids of_pdr p.id) v
 
-  endpoint_says : (e : NewEndpoint) → OnSome (λ n. n ≡ teids ofEndpoint e.id) (report_teid (endpoint_report got e))
+  endpoint_says : (e : NewEndpoint) → OnSome (λ n. n ≡ teids of_endpoint e.id) (report_teid (endpoint_report got e))
   unfolding endpoint_report granted
-  endpoint_says e = tunnel_says (teids ofEndpoint e.id) e.local
+  endpoint_says e = tunnel_says (teids of_endpoint e.id) e.local
 
   -- is a CHOOSE not of a kind and ID
   abbrev not_of : Kind → ℕ → Choice → Bool
@@ -192,34 +192,34 @@ module _ (s : Settings) (m : Sessions) (r : Request) (oncePdrs : T (not (has_rep
   other_choice_lem k k' i j (choose a b c) e = subst (λ (x : Bool). T (not (x && eqb j i))) (sym e) tt
 
   -- where no report has a TEID of the ID, there is no CHOOSE of it
-  no_pdr_choice : (i : ℕ) → T (not (any (λ p. eqb p.id i && is_some (report_teid (pdr_report got p))) r.pdrs)) → T (all (not_of ofPdr i) (choices r))
+  no_pdr_choice : (i : ℕ) → T (not (any (λ p. eqb p.id i && is_some (report_teid (pdr_report got p))) r.pdrs)) → T (all (not_of of_pdr i) (choices r))
   unfolding choices same_kind
   no_pdr_choice i h =
-      all_append (not_of ofPdr i) (collect endpoint_choice r.endpoints) (collect pdr_choice r.pdrs)
-      (subst T (sym (all_collect endpoint_choice (not_of ofPdr i) r.endpoints))
-      (all_always (λ e. on_some (not_of ofPdr i) (endpoint_choice e)) (λ e. unfold endpoint_choice in (other_choice_lem ofPdr ofEndpoint i e.id e.local refl)) r.endpoints))
-      (subst T (sym (all_collect pdr_choice (not_of ofPdr i) r.pdrs))
-      (all_imply (λ p. not (eqb p.id i && is_some (report_teid (pdr_report got p)))) (λ p. on_some (not_of ofPdr i) (pdr_choice p))
+      all_append (not_of of_pdr i) (collect endpoint_choice r.endpoints) (collect pdr_choice r.pdrs)
+      (subst T (sym (all_collect endpoint_choice (not_of of_pdr i) r.endpoints))
+      (all_always (λ e. on_some (not_of of_pdr i) (endpoint_choice e)) (λ e. unfold endpoint_choice in (other_choice_lem of_pdr of_endpoint i e.id e.local refl)) r.endpoints))
+      (subst T (sym (all_collect pdr_choice (not_of of_pdr i) r.pdrs))
+      (all_imply (λ p. not (eqb p.id i && is_some (report_teid (pdr_report got p)))) (λ p. on_some (not_of of_pdr i) (pdr_choice p))
       (λ p g. unfold pdr_choice in (one p.id p.local (unfold pdr_report in g))) r.pdrs (none_any (λ p. eqb p.id i && is_some (report_teid (pdr_report got p))) r.pdrs h)))
     where
-      one : (j : ℕ) (o : Option Fteid) → T (not (eqb j i && is_some (map_option (λ (u : Tunnel). u.teid) (bind_option o (chosen_tunnel (got ofPdr j).teid))))) → T (on_some (not_of ofPdr i) (bind_option o (choice_of ofPdr j)))
+      one : (j : ℕ) (o : Option Fteid) → T (not (eqb j i && is_some (map_option (λ (u : Tunnel). u.teid) (bind_option o (chosen_tunnel (got of_pdr j).teid))))) → T (on_some (not_of of_pdr i) (bind_option o (choice_of of_pdr j)))
       one j none g = tt
-      one j (some v) g = own_choice ofPdr i j (got ofPdr j).teid v g
+      one j (some v) g = own_choice of_pdr i j (got of_pdr j).teid v g
 
-  no_endpoint_choice : (i : ℕ) → T (not (any (λ e. eqb e.id i && is_some (report_teid (endpoint_report got e))) r.endpoints)) → T (all (not_of ofEndpoint i) (choices r))
+  no_endpoint_choice : (i : ℕ) → T (not (any (λ e. eqb e.id i && is_some (report_teid (endpoint_report got e))) r.endpoints)) → T (all (not_of of_endpoint i) (choices r))
   unfolding choices same_kind
   no_endpoint_choice i h =
-      all_append (not_of ofEndpoint i) (collect endpoint_choice r.endpoints) (collect pdr_choice r.pdrs)
-      (subst T (sym (all_collect endpoint_choice (not_of ofEndpoint i) r.endpoints))
-      (all_imply (λ e. not (eqb e.id i && is_some (report_teid (endpoint_report got e)))) (λ e. on_some (not_of ofEndpoint i) (endpoint_choice e))
-      (λ e g. unfold endpoint_choice in (own_choice ofEndpoint i e.id (got ofEndpoint e.id).teid e.local (unfold endpoint_report in g))) r.endpoints
+      all_append (not_of of_endpoint i) (collect endpoint_choice r.endpoints) (collect pdr_choice r.pdrs)
+      (subst T (sym (all_collect endpoint_choice (not_of of_endpoint i) r.endpoints))
+      (all_imply (λ e. not (eqb e.id i && is_some (report_teid (endpoint_report got e)))) (λ e. on_some (not_of of_endpoint i) (endpoint_choice e))
+      (λ e g. unfold endpoint_choice in (own_choice of_endpoint i e.id (got of_endpoint e.id).teid e.local (unfold endpoint_report in g))) r.endpoints
       (none_any (λ e. eqb e.id i && is_some (report_teid (endpoint_report got e))) r.endpoints h)))
-      (subst T (sym (all_collect pdr_choice (not_of ofEndpoint i) r.pdrs))
-      (all_always (λ p. on_some (not_of ofEndpoint i) (pdr_choice p)) (λ p. unfold pdr_choice in (one p.id p.local)) r.pdrs))
+      (subst T (sym (all_collect pdr_choice (not_of of_endpoint i) r.pdrs))
+      (all_always (λ p. on_some (not_of of_endpoint i) (pdr_choice p)) (λ p. unfold pdr_choice in (one p.id p.local)) r.pdrs))
     where
-      one : (j : ℕ) (o : Option Fteid) → T (on_some (not_of ofEndpoint i) (bind_option o (choice_of ofPdr j)))
+      one : (j : ℕ) (o : Option Fteid) → T (on_some (not_of of_endpoint i) (bind_option o (choice_of of_pdr j)))
       one j none = tt
-      one j (some v) = other_choice_lem ofEndpoint ofPdr i j v refl
+      one j (some v) = other_choice_lem of_endpoint of_pdr i j v refl
 
   -- a TEID of the grants is said if a report has one; else there is none
   teid_or_none : (k : Kind) (i : ℕ) (b : Bool) → (T (not b) → T (all (not_of k i) (choices r))) → pick b (teids k i) 0 ≡ teids k i
@@ -229,12 +229,12 @@ module _ (s : Settings) (m : Sessions) (r : Request) (oncePdrs : T (not (has_rep
   -- the TEID that the reports say of any kind and ID is the grants'
   pub said_teids : (k : Kind) (i : ℕ) → (said_of k i).teid ≡ teids k i
   unfolding said reports
-  said_teids ofPdr i =
-      said_part_lem new_pdr_id (pdr_report got) pdr_key report_teid teid_chosen (teids ofPdr) pdr_says i r.pdrs apart_pdrs
-      ∙ teid_or_none ofPdr i (any (λ p. eqb p.id i && is_some (report_teid (pdr_report got p))) r.pdrs) (no_pdr_choice i)
-  said_teids ofEndpoint i =
-      said_part_lem new_endpoint_id (endpoint_report got) endpoint_key report_teid teid_chosen (teids ofEndpoint) endpoint_says i r.endpoints apart_endpoints
-      ∙ teid_or_none ofEndpoint i (any (λ e. eqb e.id i && is_some (report_teid (endpoint_report got e))) r.endpoints) (no_endpoint_choice i)
+  said_teids of_pdr i =
+      said_part_lem new_pdr_id (pdr_report got) pdr_key report_teid teid_chosen (teids of_pdr) pdr_says i r.pdrs apart_pdrs
+      ∙ teid_or_none of_pdr i (any (λ p. eqb p.id i && is_some (report_teid (pdr_report got p))) r.pdrs) (no_pdr_choice i)
+  said_teids of_endpoint i =
+      said_part_lem new_endpoint_id (endpoint_report got) endpoint_key report_teid teid_chosen (teids of_endpoint) endpoint_says i r.endpoints apart_endpoints
+      ∙ teid_or_none of_endpoint i (any (λ e. eqb e.id i && is_some (report_teid (endpoint_report got e))) r.endpoints) (no_endpoint_choice i)
 
   -- ---- the address
 
@@ -256,11 +256,11 @@ module _ (s : Settings) (m : Sessions) (r : Request) (oncePdrs : T (not (has_rep
   endpoint_address_says e = ip_says e.address
 
   -- the address that the reports say of a record that chooses one is the chosen one
-  pub said_pdr_addresses : Every (λ p. T (is_some (report_address (pdr_report got p))) → (said_of ofPdr p.id).address ≡ chosen_address s m) r.pdrs
+  pub said_pdr_addresses : Every (λ p. T (is_some (report_address (pdr_report got p))) → (said_of of_pdr p.id).address ≡ chosen_address s m) r.pdrs
   unfolding said reports
   said_pdr_addresses = said_own new_pdr_id (pdr_report got) pdr_key report_address address_chosen (λ _. chosen_address s m) pdr_address_says r.pdrs apart_pdrs
 
-  pub said_endpoint_addresses : Every (λ e. T (is_some (report_address (endpoint_report got e))) → (said_of ofEndpoint e.id).address ≡ chosen_address s m) r.endpoints
+  pub said_endpoint_addresses : Every (λ e. T (is_some (report_address (endpoint_report got e))) → (said_of of_endpoint e.id).address ≡ chosen_address s m) r.endpoints
   unfolding said reports
   said_endpoint_addresses = said_own new_endpoint_id (endpoint_report got) endpoint_key report_address address_chosen (λ _. chosen_address s m) endpoint_address_says r.endpoints apart_endpoints
 
@@ -271,22 +271,22 @@ module _ (s : Settings) (m : Sessions) (r : Request) (oncePdrs : T (not (has_rep
   unfolding address_from address_got chosen_ip ue_chooses
   address_same n none f = refl
   address_same n (some (ue_given a)) f = refl
-  address_same n (some ueChoose) f = ap (λ (a : ℕ). some a) (f tt)
-  address_same n (some ueOther) f = refl
+  address_same n (some ue_choose) f = ap (λ (a : ℕ). some a) (f tt)
+  address_same n (some ue_other) f = refl
 
-  made_pdr_lem : (p : NewPdr) → (T (is_some (report_address (pdr_report got p))) → (said_of ofPdr p.id).address ≡ chosen_address s m) → made_pdr said_of p ≡ made_pdr got p
+  made_pdr_lem : (p : NewPdr) → (T (is_some (report_address (pdr_report got p))) → (said_of of_pdr p.id).address ≡ chosen_address s m) → made_pdr said_of p ≡ made_pdr got p
   unfolding made_pdr granted
   made_pdr_lem p f =
-      λ j. pdr_by p (match_from (said_teids ofPdr p.id j) p.local p.endpoint)
-      (address_same (said_of ofPdr p.id).address p.address (unfold pdr_report granted in f) j)
+      λ j. pdr_by p (match_from (said_teids of_pdr p.id j) p.local p.endpoint)
+      (address_same (said_of of_pdr p.id).address p.address (unfold pdr_report granted in f) j)
 
-  made_endpoint_lem : (e : NewEndpoint) → (T (is_some (report_address (endpoint_report got e))) → (said_of ofEndpoint e.id).address ≡ chosen_address s m) → made_endpoint said_of e ≡ made_endpoint got e
+  made_endpoint_lem : (e : NewEndpoint) → (T (is_some (report_address (endpoint_report got e))) → (said_of of_endpoint e.id).address ≡ chosen_address s m) → made_endpoint said_of e ≡ made_endpoint got e
   unfolding made_endpoint granted
   made_endpoint_lem e f =
       λ j. record {
         id = e.id;
-        local = tunnel_from (said_teids ofEndpoint e.id j) e.local;
-        address = address_same (said_of ofEndpoint e.id).address e.address (unfold endpoint_report granted in f) j;
+        local = tunnel_from (said_teids of_endpoint e.id j) e.local;
+        address = address_same (said_of of_endpoint e.id).address e.address (unfold endpoint_report granted in f) j;
       }
 
   map_every : {A B : Type 0} (f g : A → B) (xs : List A) → Every (λ a. f a ≡ g a) xs → map f xs ≡ map g xs
@@ -296,12 +296,12 @@ module _ (s : Settings) (m : Sessions) (r : Request) (oncePdrs : T (not (has_rep
   made_pdrs : map (made_pdr said_of) r.pdrs ≡ map (made_pdr got) r.pdrs
   made_pdrs =
       map_every (made_pdr said_of) (made_pdr got) r.pdrs
-      (every_imply (λ p. T (is_some (report_address (pdr_report got p))) → (said_of ofPdr p.id).address ≡ chosen_address s m) (λ p. made_pdr said_of p ≡ made_pdr got p) made_pdr_lem r.pdrs said_pdr_addresses)
+      (every_imply (λ p. T (is_some (report_address (pdr_report got p))) → (said_of of_pdr p.id).address ≡ chosen_address s m) (λ p. made_pdr said_of p ≡ made_pdr got p) made_pdr_lem r.pdrs said_pdr_addresses)
 
   made_endpoints : map (made_endpoint said_of) r.endpoints ≡ map (made_endpoint got) r.endpoints
   made_endpoints =
       map_every (made_endpoint said_of) (made_endpoint got) r.endpoints
-      (every_imply (λ e. T (is_some (report_address (endpoint_report got e))) → (said_of ofEndpoint e.id).address ≡ chosen_address s m) (λ e. made_endpoint said_of e ≡ made_endpoint got e) made_endpoint_lem r.endpoints said_endpoint_addresses)
+      (every_imply (λ e. T (is_some (report_address (endpoint_report got e))) → (said_of of_endpoint e.id).address ≡ chosen_address s m) (λ e. made_endpoint said_of e ≡ made_endpoint got e) made_endpoint_lem r.endpoints said_endpoint_addresses)
 
   -- the sessions after it are the same by what the reports say and by what was granted
   pub follow_said : (kind who header : ℕ) → follow said_of kind who header r m ≡ follow got kind who header r m

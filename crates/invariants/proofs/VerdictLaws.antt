@@ -13,7 +13,7 @@ use Rattle.octets.proofs.Tests.{pick_no}
 use Rattle.octets.specs.Lists.{member}
 use Rattle.octets.specs.Choice.{pick}
 use Rattle.rules.specs.Model.{Settings, Sessions}
-use Rattle.rules.specs.Elements.{Refusal, missing, conditional, tooShort, incorrect, cause_of}
+use Rattle.rules.specs.Elements.{Refusal, missing, conditional, too_short, incorrect, cause_of}
 use Rattle.rules.specs.Message.{kind_of, Spot, frame_fault}
 use Rattle.rules.specs.Reading.{Fault, read_fault, read_request}
 use Rattle.rules.specs.Stages.{invalid_allocation, breaks_rule, room_lacks, address_lacks, Verdict, plain, judge, entry_session, judged, from_reading, verdict_from, unknown_session, verdict, already_live, Reason, because, first_of, reasons}
@@ -90,7 +90,7 @@ module _ (s : Settings) (who : ℕ) (m : Sessions) (msg : List ℕ) where
     unfolding cause_of member
     refused missing = other why.mandatory_missing tt
     refused conditional = other why.conditional_missing tt
-    refused tooShort = other why.wrong_length tt
+    refused too_short = other why.wrong_length tt
     refused incorrect = other why.incorrect tt
 
     -- stage 3

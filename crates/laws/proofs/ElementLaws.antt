@@ -15,7 +15,7 @@ use Rattle.octets.specs.Choice.{flag, all_of, is_nil}
 use Rattle.octets.specs.Octets.{be, number, number_at, octet_at, bit, octets, slices, concat_map}
 use Rattle.octets.proofs.Tests.{pick_yes, pick_no, all_of_each, and_left, and_right}
 use Rattle.octets.proofs.Numbers.{length_be, number_be}
-use Rattle.rules.specs.Elements.{value, Fteid, given, choose, v4_flag, v6_flag, ch_flag, wrong_flags, fteid_length, chosen_fields, given_fields, fteid_fields, read_fteid, address_of, fteid_allowed, fteid_octets, UeIp, ue_given, ueChoose, ueOther, ue_unsupported, ue_fields, read_ue_ip, ue_allowed, ue_octets, sets, address_length, operator_allowed, node_address_allowed, node_type_kept, csids_read, csid_fields, count_allowed, checked_csid, csid_rest, read_fqcsid, below16, fqcsid_octets, fseid_length, seid_answer, read_fseid, fseid_octets}
+use Rattle.rules.specs.Elements.{value, Fteid, given, choose, v4_flag, v6_flag, ch_flag, wrong_flags, fteid_length, chosen_fields, given_fields, fteid_fields, read_fteid, address_of, fteid_allowed, fteid_octets, UeIp, ue_given, ue_choose, ue_other, ue_unsupported, ue_fields, read_ue_ip, ue_allowed, ue_octets, sets, address_length, operator_allowed, node_address_allowed, node_type_kept, csids_read, csid_fields, count_allowed, checked_csid, csid_rest, read_fqcsid, below16, fqcsid_octets, fseid_length, seid_answer, read_fseid, fseid_octets}
 use Rattle.laws.proofs.KeptRules.{given_kept, node_address_kept}
 
 -- ---- F-TEID
@@ -114,8 +114,8 @@ fseid_back n (x ∷ a) (y ∷ b) pos hn ha hb h = fseid_answer_lem n (x ∷ a) (
 pub ue_back : (v : UeIp) → T (ue_allowed v) → read_ue_ip (ue_octets v) ≡ value v
 unfolding ue_allowed ue_octets read_ue_ip ue_unsupported ue_fields bit number_at be
 ue_back (ue_given a) h = ap (λ (n : ℕ). value (ue_given n)) (number_be 4 a (ltb→lt a (2 ^ 32) h))
-ue_back ueChoose h = refl
-ue_back ueOther h = absurd h
+ue_back ue_choose h = refl
+ue_back ue_other h = absurd h
 
 -- ---- FQ-CSID with one CSID
 

@@ -19,7 +19,7 @@ use Rattle.rules.specs.Elements.{Fteid, given, choose, choose_id_of}
 use Rattle.rules.specs.Sound.{settings_allowed}
 use Rattle.rules.specs.Reading.{read_request}
 use Rattle.rules.specs.Request.{NewPdr, NewEndpoint, Request}
-use Rattle.rules.specs.Grants.{Kind, ofPdr, ofEndpoint, same_kind, Choice, Chosen, Grant, choice_of, endpoint_choice, pdr_choice, choices, chosen, is_choice, chosen_teid, remember, grant_of, teid_for, free_after, chosen_after, grant_from, grants, chosen_address, grant_teid, granted_teid}
+use Rattle.rules.specs.Grants.{Kind, of_pdr, of_endpoint, same_kind, Choice, Chosen, Grant, choice_of, endpoint_choice, pdr_choice, choices, chosen, is_choice, chosen_teid, remember, grant_of, teid_for, free_after, chosen_after, grant_from, grants, chosen_address, grant_teid, granted_teid}
 use Rattle.laws.proofs.TableLaws.{pool_fits, address_pool_fits}
 use Rattle.laws.proofs.ReadLaws.{FteidRead}
 use Rattle.laws.proofs.RequestLaws.{PdrRead, EndpointRead, request_read}
@@ -30,9 +30,9 @@ use Rattle.laws.proofs.RequestLaws.{PdrRead, EndpointRead, request_read}
 pub record ChoiceRead (c : Choice) : Type 0 where
   pub id : T (ltb c.id (256 ^ 2))
   pub octet : OnSome (λ i. T (ltb i 256)) c.choose_id
-  pub endpoint_id : T (same_kind ofPdr c.kind || ltb c.id 256)
+  pub endpoint_id : T (same_kind of_pdr c.kind || ltb c.id 256)
 
-choice_read : (k : Kind) (i : ℕ) (e : Bool) (v : Fteid) → T (ltb i (256 ^ 2)) → T (same_kind ofPdr k || ltb i 256) → FteidRead e v → OnSome ChoiceRead (choice_of k i v)
+choice_read : (k : Kind) (i : ℕ) (e : Bool) (v : Fteid) → T (ltb i (256 ^ 2)) → T (same_kind of_pdr k || ltb i 256) → FteidRead e v → OnSome ChoiceRead (choice_of k i v)
 unfolding choice_of choose_id_of
 choice_read k i e (given t a b) h g f = tt
 choice_read k i e (choose v4 v6 c) h g f = record { id = h; octet = f.octet; endpoint_id = g }
@@ -41,13 +41,13 @@ pdr_choice_lem : (p : NewPdr) → PdrRead p → OnSome ChoiceRead (pdr_choice p)
 unfolding pdr_choice same_kind
 pdr_choice_lem p h = one p.local h.local
   where
-    one : (o : Option Fteid) → OnSome (FteidRead false) o → OnSome ChoiceRead (bind_option o (choice_of ofPdr p.id))
+    one : (o : Option Fteid) → OnSome (FteidRead false) o → OnSome ChoiceRead (bind_option o (choice_of of_pdr p.id))
     one none k = tt
-    one (some v) k = choice_read ofPdr p.id false v h.id tt k
+    one (some v) k = choice_read of_pdr p.id false v h.id tt k
 
 endpoint_choice_lem : (e : NewEndpoint) → EndpointRead e → OnSome ChoiceRead (endpoint_choice e)
 unfolding endpoint_choice same_kind
-endpoint_choice_lem e h = choice_read ofEndpoint e.id true e.local (lt→ltb e.id (256 ^ 2) (le_trans (ltb→lt e.id 256 h.id) (lit≤ tt))) h.id h.local
+endpoint_choice_lem e h = choice_read of_endpoint e.id true e.local (lt→ltb e.id (256 ^ 2) (le_trans (ltb→lt e.id 256 h.id) (lit≤ tt))) h.id h.local
 
 -- every CHOOSE of a request
 pub choices_read : (msg : List ℕ) → T (are_bytes msg) → Every ChoiceRead (choices (read_request msg))

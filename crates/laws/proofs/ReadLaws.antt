@@ -18,7 +18,7 @@ use Rattle.octets.proofs.ListLaws.{pick_cases, not_not, or_by_right, OnSome}
 use Rattle.laws.proofs.BoundLaws.{field_bound, bytes_take, bytes_drop}
 use Rattle.octets.proofs.Ordered.{ne_of}
 use Rattle.octets.proofs.Bools.{not_or}
-use Rattle.rules.specs.Elements.{Refusal, tooShort, incorrect, Answer, refuse, value, Fteid, given, choose, v4_flag, v6_flag, ch_flag, chid_flag, wrong_flags, fteid_length, chosen_fields, given_fields, fteid_fields, read_fteid, has_v4, has_v6, choose_id_of, UeIp, ue_given, ueChoose, ueOther, ue_v4, ue_chv4, ue_unsupported, ue_fields, read_ue_ip, ue_address_of, Fqcsid, sets, removal, address_length, operator_allowed, node_address_allowed, node_type_kept, csids_read, csid_fields, count_allowed, checked_csid, csid_rest, read_fqcsid, below16, fseid_length, seid_answer, read_fseid}
+use Rattle.rules.specs.Elements.{Refusal, too_short, incorrect, Answer, refuse, value, Fteid, given, choose, v4_flag, v6_flag, ch_flag, chid_flag, wrong_flags, fteid_length, chosen_fields, given_fields, fteid_fields, read_fteid, has_v4, has_v6, choose_id_of, UeIp, ue_given, ue_choose, ue_other, ue_v4, ue_chv4, ue_unsupported, ue_fields, read_ue_ip, ue_address_of, Fqcsid, sets, removal, address_length, operator_allowed, node_address_allowed, node_type_kept, csids_read, csid_fields, count_allowed, checked_csid, csid_rest, read_fqcsid, below16, fseid_length, seid_answer, read_fseid}
 use Rattle.laws.proofs.KeptRules.{node_address_allowed_lem}
 use Rattle.rules.specs.Reading.{Reading, faulty, done, and_then, named, requiring, once}
 
@@ -69,10 +69,10 @@ module _ {A : Type 0} (P : A → Type 0) where
 -- ---- F-TEID
 
 -- what is used of an F-TEID that was read: a family at least, a CHOOSE ID of one octet, and none in an endpoint
-pub record FteidRead (inEndpoint : Bool) (v : Fteid) : Type 0 where
+pub record FteidRead (in_endpoint : Bool) (v : Fteid) : Type 0 where
   pub family : T (has_v4 v || has_v6 v)
   pub octet : OnSome (λ i. T (ltb i 256)) (choose_id_of v)
-  pub no_choose_id : T inEndpoint → choose_id_of v ≡ none
+  pub no_choose_id : T in_endpoint → choose_id_of v ≡ none
 
 -- the first octet of octets, 0 where there is none
 first_octet_lem : (xs : List ℕ) → T (are_bytes xs) → T (ltb (octet_at xs 0) 256)
@@ -130,7 +130,7 @@ unfolding read_fteid
 fteid_read_lem e [] h = tt
 fteid_read_lem e (f ∷ xs) h =
     pick_cases P (wrong_flags e f) (refuse incorrect) _ (λ _. tt)
-    (λ right. pick_cases P (ltb (length xs) (fteid_length f)) (refuse tooShort) (value (fteid_fields f xs)) (λ _. tt)
+    (λ right. pick_cases P (ltb (length xs) (fteid_length f)) (refuse too_short) (value (fteid_fields f xs)) (λ _. tt)
     (λ long. fields_read e f xs (and_right (ltb f 256) (are_bytes xs) h) right (nltb→le (length xs) (fteid_length f) long)))
   where
     P : Answer Fteid → Type 0
@@ -146,10 +146,10 @@ pub ue_read_lem : (xs : List ℕ) → T (are_bytes xs) → OnValue UeRead (read_
 unfolding read_ue_ip ue_fields ue_address_of
 ue_read_lem [] h = tt
 ue_read_lem (f ∷ xs) h =
-    pick_either P (ue_unsupported f) (value ueOther) _ tt
+    pick_either P (ue_unsupported f) (value ue_other) _ tt
     (pick_either P (same_bool (ue_v4 f) (ue_chv4 f)) (refuse incorrect) _ tt
-    (pick_either P (ue_chv4 f) (value ueChoose) _ tt
-    (pick_either P (ltb (length xs) 4) (refuse tooShort) (value (ue_given (number_at 0 4 xs))) tt
+    (pick_either P (ue_chv4 f) (value ue_choose) _ tt
+    (pick_either P (ltb (length xs) 4) (refuse too_short) (value (ue_given (number_at 0 4 xs))) tt
     (lt→ltb (number_at 0 4 xs) (2 ^ 32) (field_bound 4 xs (and_right (ltb f 256) (are_bytes xs) h))))))
   where
     P : Answer UeIp → Type 0
@@ -203,7 +203,7 @@ unfolding read_fqcsid csid_rest
 fqcsid_read [] h = tt
 fqcsid_read (f ∷ xs) h =
     pick_cases P (ltb 2 (f / 16)) (refuse incorrect) _ (λ _. tt)
-    (λ kind. pick_cases P (ltb (length xs) (address_length (f / 16) + 2 * (f % 16) + 1)) (refuse tooShort) _ (λ _. tt)
+    (λ kind. pick_cases P (ltb (length xs) (address_length (f / 16) + 2 * (f % 16) + 1)) (refuse too_short) _ (λ _. tt)
     (λ long. let l = nltb→le (length xs) (address_length (f / 16) + 2 * (f % 16) + 1) long in
     checked_read (f % 16) (f / 16) xs (octet_at xs (address_length (f / 16) + 2 * (f % 16)) % 16) (and_right (ltb f 256) (are_bytes xs) h) (nltb→le 2 (f / 16) kind) (omega arith)))
   where
@@ -223,7 +223,7 @@ unfolding read_fseid seid_answer
 fseid_read [] h = tt
 fseid_read (f ∷ xs) h =
     pick_cases P (not (bit 0 f || bit 1 f)) (refuse incorrect) _ (λ _. tt)
-    (λ _. pick_cases P (ltb (length xs) (fseid_length f)) (refuse tooShort) _ (λ _. tt)
+    (λ _. pick_cases P (ltb (length xs) (fseid_length f)) (refuse too_short) _ (λ _. tt)
     (λ _. pick_cases P (eqb (number_at 0 8 xs) 0) (refuse incorrect) (value (number_at 0 8 xs)) (λ _. tt)
     (λ other. record { nonzero = above (number_at 0 8 xs) other; fits = lt→ltb (number_at 0 8 xs) (2 ^ 64) (field_bound 8 xs (and_right (ltb f 256) (are_bytes xs) h)) })))
   where

@@ -19,7 +19,7 @@ use Rattle.rules.specs.Elements.{Fteid, given, choose, UeIp, ue_chooses}
 use Rattle.rules.specs.Sound.{settings_allowed}
 use Rattle.rules.specs.Reading.{read_request}
 use Rattle.rules.specs.Request.{NewPdr, NewEndpoint, Request}
-use Rattle.rules.specs.Grants.{Kind, ofPdr, ofEndpoint, Got, granted}
+use Rattle.rules.specs.Grants.{Kind, of_pdr, of_endpoint, Got, granted}
 use Rattle.rules.specs.Reply.{Report, chosen_tunnel, chosen_ip, pdr_report, endpoint_report, something_chosen, reports}
 use Rattle.laws.proofs.RequestLaws.{PdrRead, EndpointRead, RequestRead, request_read}
 use Rattle.laws.proofs.GrantLaws.{four_octets, chosen_address_fits, granted_teid_fits}
@@ -48,18 +48,18 @@ module _ (got : Kind → ℕ → Got) (teids : (k : Kind) (i : ℕ) → T (four_
   pdr_fits_lem : (p : NewPdr) → PdrRead p → T (report_fits (pdr_report got p))
   unfolding pdr_report
   pdr_fits_lem p k =
-      let l = bind_option p.local (chosen_tunnel (got ofPdr p.id).teid) in
-      let a = bind_option p.address (chosen_ip (got ofPdr p.id).address) in
+      let l = bind_option p.local (chosen_tunnel (got of_pdr p.id).teid) in
+      let a = bind_option p.address (chosen_ip (got of_pdr p.id).address) in
       both (ltb p.id (256 ^ 2)) (on_some (λ t. four_octets t.teid) l && on_some four_octets a) k.id
-      (both (on_some (λ t. four_octets t.teid) l) (on_some four_octets a) (local_fits (got ofPdr p.id).teid p.local (teids ofPdr p.id)) (ip_fits (got ofPdr p.id).address p.address (addresses ofPdr p.id)))
+      (both (on_some (λ t. four_octets t.teid) l) (on_some four_octets a) (local_fits (got of_pdr p.id).teid p.local (teids of_pdr p.id)) (ip_fits (got of_pdr p.id).address p.address (addresses of_pdr p.id)))
 
   endpoint_fits_lem : (e : NewEndpoint) → EndpointRead e → T (report_fits (endpoint_report got e))
   unfolding endpoint_report
   endpoint_fits_lem e k =
-      let l = chosen_tunnel (got ofEndpoint e.id).teid e.local in
-      let a = bind_option e.address (chosen_ip (got ofEndpoint e.id).address) in
+      let l = chosen_tunnel (got of_endpoint e.id).teid e.local in
+      let a = bind_option e.address (chosen_ip (got of_endpoint e.id).address) in
       both (ltb e.id (256 ^ 2)) (on_some (λ t. four_octets t.teid) l && on_some four_octets a) (lt→ltb e.id (256 ^ 2) (le_trans (ltb→lt e.id 256 k.id) (lit≤ tt)))
-      (both (on_some (λ t. four_octets t.teid) l) (on_some four_octets a) (tunnel_fits (got ofEndpoint e.id).teid e.local (teids ofEndpoint e.id)) (ip_fits (got ofEndpoint e.id).address e.address (addresses ofEndpoint e.id)))
+      (both (on_some (λ t. four_octets t.teid) l) (on_some four_octets a) (tunnel_fits (got of_endpoint e.id).teid e.local (teids of_endpoint e.id)) (ip_fits (got of_endpoint e.id).address e.address (addresses of_endpoint e.id)))
 
   -- ---- every report
 

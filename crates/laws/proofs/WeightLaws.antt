@@ -12,7 +12,7 @@ use Rattle.octets.specs.Choice.{pick, flag}
 use Rattle.octets.specs.Lists.{member, any, keep}
 use Rattle.octets.proofs.Tests.{pick_either}
 use Rattle.octets.proofs.ListLaws.{Every, OnSome, pick_cases}
-use Rattle.rules.specs.Elements.{Answer, refuse, value, missing, tooShort, incorrect, Fqcsid, address_length, csid_rest, read_fseid, read_fqcsid, read_fteid, read_ue_ip}
+use Rattle.rules.specs.Elements.{Answer, refuse, value, missing, too_short, incorrect, Fqcsid, address_length, csid_rest, read_fseid, read_fqcsid, read_fteid, read_ue_ip}
 use Rattle.rules.specs.Types as ie
 use Rattle.rules.specs.Message.{inside, Element, element_length, elements_up_to, elements, has_type, places_of, number_width}
 use Rattle.rules.specs.Reading.{Reading, done, and_then, named, requiring, Members, no_members, with_pdi, member_there, number_read, far_read, pdi_in, value_read, member_read, members_read, unopened, pdi_end, pdi_read, pdr_item, endpoint_item, change_from, item_from, group_read, element_read, alone_in}
@@ -135,8 +135,8 @@ csid_heavy (f ∷ xs) =
     any_heavy (refuse c) h = tt
     any_heavy (value c) h = h
 
-    by_length : (a m : ℕ) (r : Answer Fqcsid) → 4 ≤ a → P (pick (ltb (length xs) (a + m + 1)) (refuse tooShort) r)
-    by_length a m r h = pick_cases P (ltb (length xs) (a + m + 1)) (refuse tooShort) r (λ _. tt) (λ long. any_heavy r (omega (arith, nltb→le (length xs) (a + m + 1) long)))
+    by_length : (a m : ℕ) (r : Answer Fqcsid) → 4 ≤ a → P (pick (ltb (length xs) (a + m + 1)) (refuse too_short) r)
+    by_length a m r h = pick_cases P (ltb (length xs) (a + m + 1)) (refuse too_short) r (λ _. tt) (λ long. any_heavy r (omega (arith, nltb→le (length xs) (a + m + 1) long)))
 
 -- ---- one more item
 

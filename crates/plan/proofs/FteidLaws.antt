@@ -12,7 +12,7 @@ use Rattle.octets.specs.Rows.{has_tag}
 use Rattle.rules.specs.Model.{Holding}
 use Rattle.rules.specs.Elements.{Fteid, given, choose, has_v4, has_v6, chooses}
 use Rattle.rules.specs.Stages.{restored_holding, endpoint_restored, pdr_restored}
-use Rattle.rules.specs.Grants.{Kind, ofPdr, ofEndpoint, Choice, choice_of, endpoint_choice, pdr_choice, choice_id}
+use Rattle.rules.specs.Grants.{Kind, of_pdr, of_endpoint, Choice, choice_of, endpoint_choice, pdr_choice, choice_id}
 use Rattle.plan.specs.Rows.{word, fteid_from, row_fteid, row_local, row_pdr, row_endpoint}
 use Rattle.rules.specs.Types as ie
 use Rattle.plan.specs.Words as its
@@ -136,20 +136,20 @@ chosen_row k n row = rw (row_is row) (one (bit 2 (word its.flags row)))
 -- the CHOOSE of a row that chooses
 abbrev pub choose_of : List ℕ → Choice
 choose_of row =
-    record { kind = pick (has_tag ie.create_endpoint row) ofEndpoint ofPdr; id = pick (has_tag ie.create_endpoint row) (word its.endpoint_id row) (word its.pdr_id row); v4 = bit 0 (word its.flags row); v6 = bit 1 (word its.flags row); choose_id = pick (bit 3 (word its.flags row)) (some (word its.choose_id row)) none }
+    record { kind = pick (has_tag ie.create_endpoint row) of_endpoint of_pdr; id = pick (has_tag ie.create_endpoint row) (word its.endpoint_id row) (word its.pdr_id row); v4 = bit 0 (word its.flags row); v6 = bit 1 (word its.flags row); choose_id = pick (bit 3 (word its.flags row)) (some (word its.choose_id row)) none }
 
 pub choice_row : (row : List ℕ) → row_choice row ≡ pick (has_fteid row && bit 2 (word its.flags row)) (some (choose_of row)) none
 unfolding row_choice has_fteid endpoint_choice pdr_choice row_endpoint row_pdr row_local
 choice_row row =
-    rw (bind_pick (eqb (word its.flags row) 0) (row_fteid row) (choice_of ofPdr (word its.pdr_id row)), chosen_row ofPdr (word its.pdr_id row) row, chosen_row ofEndpoint (word its.endpoint_id row) row)
+    rw (bind_pick (eqb (word its.flags row) 0) (row_fteid row) (choice_of of_pdr (word its.pdr_id row)), chosen_row of_pdr (word its.pdr_id row) row, chosen_row of_endpoint (word its.endpoint_id row) row)
     (one (has_tag ie.create_endpoint row) (has_tag ie.create_pdr row) (eqb (word its.flags row) 0) (bit 2 (word its.flags row)))
   where
     chosen : Kind → ℕ → Choice
     chosen k n = record { kind = k; id = n; v4 = bit 0 (word its.flags row); v6 = bit 1 (word its.flags row); choose_id = pick (bit 3 (word its.flags row)) (some (word its.choose_id row)) none }
 
     one : (e p z ch : Bool)
-        → pick e (pick ch (some (chosen ofEndpoint (word its.endpoint_id row))) none) (pick p (pick z none (pick ch (some (chosen ofPdr (word its.pdr_id row))) none)) none)
-        ≡ pick ((e || (p && not z)) && ch) (some (chosen (pick e ofEndpoint ofPdr) (pick e (word its.endpoint_id row) (word its.pdr_id row)))) none
+        → pick e (pick ch (some (chosen of_endpoint (word its.endpoint_id row))) none) (pick p (pick z none (pick ch (some (chosen of_pdr (word its.pdr_id row))) none)) none)
+        ≡ pick ((e || (p && not z)) && ch) (some (chosen (pick e of_endpoint of_pdr) (pick e (word its.endpoint_id row) (word its.pdr_id row)))) none
     one true p z true = refl
     one true p z false = refl
     one false true true ch = refl
@@ -169,7 +169,7 @@ unfolding row_choose_id
 choose_id_row row = rw (choice_row row) (one (has_fteid row && bit 2 (word its.flags row)) (bit 3 (word its.flags row)))
   where
     chosen : Bool → Choice
-    chosen d = record { kind = pick (has_tag ie.create_endpoint row) ofEndpoint ofPdr; id = pick (has_tag ie.create_endpoint row) (word its.endpoint_id row) (word its.pdr_id row); v4 = bit 0 (word its.flags row); v6 = bit 1 (word its.flags row); choose_id = pick d (some (word its.choose_id row)) none }
+    chosen d = record { kind = pick (has_tag ie.create_endpoint row) of_endpoint of_pdr; id = pick (has_tag ie.create_endpoint row) (word its.endpoint_id row) (word its.pdr_id row); v4 = bit 0 (word its.flags row); v6 = bit 1 (word its.flags row); choose_id = pick d (some (word its.choose_id row)) none }
 
     one : (b d : Bool) → bind_option (pick b (some (chosen d)) none) choice_id ≡ pick (b && d) (some (word its.choose_id row)) none
     one true true = refl

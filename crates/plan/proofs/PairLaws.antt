@@ -16,7 +16,7 @@ use Rattle.rules.specs.Model.{Holding}
 use Rattle.rules.specs.Elements.{Fteid, given, choose, choose_id_of}
 use Rattle.rules.specs.Sound.{agree, share_tests}
 use Rattle.rules.specs.Stages.{same_choice, alike_fteids, fteids_may_share, locals_may_share, choices_agree}
-use Rattle.rules.specs.Grants.{ofPdr, choice_of, pdr_choice, choice_id}
+use Rattle.rules.specs.Grants.{of_pdr, choice_of, pdr_choice, choice_id}
 use Rattle.plan.specs.Rows.{word, row_fteid, row_local, row_pdr}
 use Rattle.rules.specs.Types as ie
 use Rattle.plan.specs.Words as its
@@ -88,7 +88,7 @@ unfolding shares_choice same_choice
 shares_both a b h g = rw (id_known a h, id_known b g)
 
 -- a Create PDR's CHOOSE ID is its F-TEID's
-local_id : (i : ℕ) (o : Option Fteid) → bind_option (bind_option o (choice_of ofPdr i)) choice_id ≡ bind_option o choose_id_of
+local_id : (i : ℕ) (o : Option Fteid) → bind_option (bind_option o (choice_of of_pdr i)) choice_id ≡ bind_option o choose_id_of
 unfolding choice_of choose_id_of
 local_id i none = refl
 local_id i (some (given t a b)) = refl

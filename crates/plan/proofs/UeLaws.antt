@@ -11,7 +11,7 @@ use Rattle.octets.specs.Choice.{pick}
 use Rattle.octets.specs.Lists.{any, keep, collect}
 use Rattle.octets.specs.Rows.{has_tag}
 use Rattle.rules.specs.Model.{in_address_pool}
-use Rattle.rules.specs.Elements.{UeIp, ue_given, ueChoose, ueOther, ue_address_of, ue_chooses}
+use Rattle.rules.specs.Elements.{UeIp, ue_given, ue_choose, ue_other, ue_address_of, ue_chooses}
 use Rattle.rules.specs.Stages.{addresses_of, new_pdr_address, new_endpoint_address, wrong_address}
 use Rattle.rules.specs.Types as ie
 use Rattle.rules.specs.Sound.{marked}
@@ -49,7 +49,7 @@ module _ (row : List ℕ) where
   address_none p h = rw h
 
   module _ (p : UeIp → Bool) (h : creates row ≡ true) where
-    pub address_chosen : word its.ue_kind row ≡ 2 → of_address p row ≡ p ueChoose
+    pub address_chosen : word its.ue_kind row ≡ 2 → of_address p row ≡ p ue_choose
     unfolding of_address row_ue ue_from on_some
     address_chosen e = rw (h, e)
 
@@ -57,20 +57,20 @@ module _ (row : List ℕ) where
     unfolding of_address row_ue ue_from on_some
     address_given e = rw (h, e)
 
-    pub address_other : p ueChoose ≡ false → p ueOther ≡ false → (word its.ue_kind row ≡ 1 → ⊥) → false ≡ of_address p row
+    pub address_other : p ue_choose ≡ false → p ue_other ≡ false → (word its.ue_kind row ≡ 1 → ⊥) → false ≡ of_address p row
     unfolding of_address row_ue ue_from on_some
     address_other c o n = rw (h, ne_eqb (word its.ue_kind row) 1 n) (one (eqb (word its.ue_kind row) 0) (eqb (word its.ue_kind row) 2))
       where
-        one : (a b : Bool) → false ≡ on_some p (pick a none (some (pick b ueChoose ueOther)))
+        one : (a b : Bool) → false ≡ on_some p (pick a none (some (pick b ue_choose ue_other)))
         one true b = refl
         one false true = sym c
         one false false = sym o
 
-    pub address_neither : p ueOther ≡ false → (word its.ue_kind row ≡ 2 → ⊥) → (word its.ue_kind row ≡ 1 → ⊥) → false ≡ of_address p row
+    pub address_neither : p ue_other ≡ false → (word its.ue_kind row ≡ 2 → ⊥) → (word its.ue_kind row ≡ 1 → ⊥) → false ≡ of_address p row
     unfolding of_address row_ue ue_from on_some
     address_neither o n m = rw (h, ne_eqb (word its.ue_kind row) 2 n, ne_eqb (word its.ue_kind row) 1 m) (one (eqb (word its.ue_kind row) 0))
       where
-        one : (a : Bool) → false ≡ on_some p (pick a none (some ueOther))
+        one : (a : Bool) → false ≡ on_some p (pick a none (some ue_other))
         one true = refl
         one false = sym o
 
@@ -144,12 +144,12 @@ chooses_kind : (k a : ℕ) → on_some ue_chooses (ue_from k a) ≡ eqb k 2
 unfolding on_some ue_chooses ue_from
 chooses_kind k a = one (ℕ_discrete k 0) (ℕ_discrete k 1)
   where
-    one : Dec (k ≡ 0) → Dec (k ≡ 1) → on_some ue_chooses (pick (eqb k 0) none (some (pick (eqb k 1) (ue_given a) (pick (eqb k 2) ueChoose ueOther)))) ≡ eqb k 2
+    one : Dec (k ≡ 0) → Dec (k ≡ 1) → on_some ue_chooses (pick (eqb k 0) none (some (pick (eqb k 1) (ue_given a) (pick (eqb k 2) ue_choose ue_other)))) ≡ eqb k 2
     one (yes e) d = rw e
     one (no n) (yes e) = rw e
     one (no n) (no m) = rw (ne_eqb k 0 n, ne_eqb k 1 m) (two (eqb k 2))
       where
-        two : (b : Bool) → ue_chooses (pick b ueChoose ueOther) ≡ b
+        two : (b : Bool) → ue_chooses (pick b ue_choose ue_other) ≡ b
         two true = refl
         two false = refl
 

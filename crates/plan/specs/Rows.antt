@@ -6,7 +6,7 @@ use Rattle.octets.specs.Choice.{pick}
 use Rattle.octets.specs.Octets.{be, bit, slices}
 use Rattle.octets.specs.Lists.{any, keep, collect}
 use Rattle.octets.specs.Rows.{has_tag}
-use Rattle.rules.specs.Elements.{Fteid, given, choose, UeIp, ue_given, ueChoose, ueOther, Fqcsid, sets, removal}
+use Rattle.rules.specs.Elements.{Fteid, given, choose, UeIp, ue_given, ue_choose, ue_other, Fqcsid, sets, removal}
 use Rattle.rules.specs.Request.{NewPdr, NewEndpoint, Change, cleared, changed, Request}
 use Rattle.rules.specs.Types as ie
 use Rattle.plan.specs.Words as its
@@ -41,7 +41,7 @@ row_local row = pick (eqb (word its.flags row) 0) none (some (row_fteid row))
 
 -- the UE IP Address of kind k and address a
 unfoldable pub ue_from : ℕ → ℕ → Option UeIp
-ue_from k a = pick (eqb k 0) none (some (pick (eqb k 1) (ue_given a) (pick (eqb k 2) ueChoose ueOther)))
+ue_from k a = pick (eqb k 0) none (some (pick (eqb k 1) (ue_given a) (pick (eqb k 2) ue_choose ue_other)))
 
 unfoldable pub row_ue : List ℕ → Option UeIp
 row_ue row = ue_from (word its.ue_kind row) (word its.ue_address row)

@@ -21,7 +21,7 @@ use Rattle.rules.specs.Sound.{in_pool, sessions_allowed, sound, broken, free, co
 use Rattle.rules.specs.Message.{kind_of, deletion, set_deletion}
 use Rattle.rules.specs.Reading.{read_request}
 use Rattle.rules.specs.Request.{Request, NewPdr, NewEndpoint}
-use Rattle.rules.specs.Grants.{Kind, ofPdr, ofEndpoint, chosen_address, choices, Grant, grant_of, grant_teid, is_grant_for, grants, granted_teid, need}
+use Rattle.rules.specs.Grants.{Kind, of_pdr, of_endpoint, chosen_address, choices, Grant, grant_of, grant_teid, is_grant_for, grants, granted_teid, need}
 use Rattle.rules.specs.Stages.{new_session, new_pdr_address, new_endpoint_address, addresses_of, entry_session, unnamed, at_entry}
 use Rattle.rules.specs.Apply.{kept_pdr, kept_endpoint}
 use Rattle.rules.specs.Serve.{Served, serve}
@@ -289,11 +289,11 @@ module _ (run : Run) (who : ℕ) (msg space : List ℕ) (r : RequestCall) (a : A
 
   fresh_pdrs : T (all (fresh_pdr r.space held) (read_request msg).pdrs)
   unfolding fresh_pdr
-  fresh_pdrs = fresh_each (λ (y : NewPdr). y.id) new_pdr_address ofPdr (read_request msg).pdrs call.pdr_addresses (λ h. unfold addresses_of in (any_behind ue_chooses (collect new_endpoint_address (read_request msg).endpoints) (collect new_pdr_address (read_request msg).pdrs) h))
+  fresh_pdrs = fresh_each (λ (y : NewPdr). y.id) new_pdr_address of_pdr (read_request msg).pdrs call.pdr_addresses (λ h. unfold addresses_of in (any_behind ue_chooses (collect new_endpoint_address (read_request msg).endpoints) (collect new_pdr_address (read_request msg).pdrs) h))
 
   fresh_endpoints : T (all (fresh_endpoint r.space held) (read_request msg).endpoints)
   unfolding fresh_endpoint
-  fresh_endpoints = fresh_each (λ (y : NewEndpoint). y.id) new_endpoint_address ofEndpoint (read_request msg).endpoints call.endpoint_addresses (λ h. unfold addresses_of in (any_front ue_chooses (collect new_endpoint_address (read_request msg).endpoints) (collect new_pdr_address (read_request msg).pdrs) h))
+  fresh_endpoints = fresh_each (λ (y : NewEndpoint). y.id) new_endpoint_address of_endpoint (read_request msg).endpoints call.endpoint_addresses (λ h. unfold addresses_of in (any_front ue_chooses (collect new_endpoint_address (read_request msg).endpoints) (collect new_pdr_address (read_request msg).pdrs) h))
 
 -- ---- sessions apart
 

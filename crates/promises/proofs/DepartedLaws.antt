@@ -32,7 +32,7 @@ use Rattle.restoration.proofs.RequestSteps.{take_put}
 use Rattle.restoration.proofs.SoundSlots.{request_short}
 use Rattle.claim.proofs.Unwinding.{Pair, reply_alike, counts_alike, address_counts_alike, serve_agree}
 use Rattle.pfcp_session.specs.Calls.{count_answer, count_call, address_count_call, RequestCall, reply_of, request_answer, request_call, restoration_call, session_count_call, find_session_call, find_teid_call, peer_count_call, counts_call}
-use Rattle.promises.specs.Runs.{HostStep, requested, counted, countedAddresses, HostRan, claim_step, steps_of, Run, live_after, table_after}
+use Rattle.promises.specs.Runs.{HostStep, requested, counted, counted_addresses, HostRan, claim_step, steps_of, Run, live_after, table_after}
 use Rattle.promises.specs.Departed.{called_in, hears_reply, hears_count, heard_in, Differ, ReadAlike, WriteAlike, NoMemory}
 use Rattle.promises.proofs.AccidentLaws.{left, counted_sound}
 
@@ -117,18 +117,18 @@ module _ (s : Settings) (hs : T (settings_allowed s)) where
   went [] (b ∷ others) t u p ho g h e = absurd (let z : ◌≡◌ {A = ℕ} 0 1 = cc in omega arith)
   went (a ∷ steps) [] t u p ho g h e = absurd (let z : ◌≡◌ {A = ℕ} 0 1 = cc in omega arith)
   went (requested who msg space r ∷ steps) (counted c ∷ others) t u p ho g h e = absurd (let z : ◌≡◌ {A = ℕ} 0 1 = cc in omega arith)
-  went (requested who msg space r ∷ steps) (countedAddresses c ∷ others) t u p ho g h e = absurd (let z : ◌≡◌ {A = ℕ} 0 1 = cc in omega arith)
+  went (requested who msg space r ∷ steps) (counted_addresses c ∷ others) t u p ho g h e = absurd (let z : ◌≡◌ {A = ℕ} 0 1 = cc in omega arith)
   went (counted c ∷ steps) (requested who msg space r ∷ others) t u p ho g h e = absurd (let z : ◌≡◌ {A = ℕ} 0 1 = cc in omega arith)
-  went (counted c ∷ steps) (countedAddresses d ∷ others) t u p ho g h e = absurd (let z : ◌≡◌ {A = ℕ} 0 1 = cc in omega arith)
-  went (countedAddresses c ∷ steps) (requested who msg space r ∷ others) t u p ho g h e = absurd (let z : ◌≡◌ {A = ℕ} 0 1 = cc in omega arith)
-  went (countedAddresses c ∷ steps) (counted d ∷ others) t u p ho g h e = absurd (let z : ◌≡◌ {A = ℕ} 0 1 = cc in omega arith)
+  went (counted c ∷ steps) (counted_addresses d ∷ others) t u p ho g h e = absurd (let z : ◌≡◌ {A = ℕ} 0 1 = cc in omega arith)
+  went (counted_addresses c ∷ steps) (requested who msg space r ∷ others) t u p ho g h e = absurd (let z : ◌≡◌ {A = ℕ} 0 1 = cc in omega arith)
+  went (counted_addresses c ∷ steps) (counted d ∷ others) t u p ho g h e = absurd (let z : ◌≡◌ {A = ℕ} 0 1 = cc in omega arith)
   went (counted c ∷ steps) (counted d ∷ others) t u p ho g h e =
       let more : map called_in steps ≡ map called_in others = cc in
       let w = went steps others t u p (all_tail step_allowed (claim_step (counted c)) (steps_of steps) ho) g.1 h.1 more in
       record { answers = ap₂ ◌∷◌ (ap hears_count (g.0 ∙ count_next t u p ∙ sym h.0)) w.answers; tables = w.tables }
-  went (countedAddresses c ∷ steps) (countedAddresses d ∷ others) t u p ho g h e =
+  went (counted_addresses c ∷ steps) (counted_addresses d ∷ others) t u p ho g h e =
       let more : map called_in steps ≡ map called_in others = cc in
-      let w = went steps others t u p (all_tail step_allowed (claim_step (countedAddresses c)) (steps_of steps) ho) g.1 h.1 more in
+      let w = went steps others t u p (all_tail step_allowed (claim_step (counted_addresses c)) (steps_of steps) ho) g.1 h.1 more in
       record { answers = ap₂ ◌∷◌ (ap hears_count (g.0 ∙ address_count_next t u p ∙ sym h.0)) w.answers; tables = w.tables }
   went (requested who msg space r ∷ steps) (requested who' msg' space' r' ∷ others) t u p ho g h e =
       let more : map called_in steps ≡ map called_in others = cc in

@@ -15,7 +15,7 @@ use Rattle.rules.specs.Serve.{Served, serve}
 use Rattle.rules.specs.Claim.{Ran, last_table, live_set, Restores, Promise, Demand3}
 use Rattle.claim.proofs.Demand3.{demand3}
 use Rattle.pfcp_session.specs.Calls.{MakeCall, make_answer, make_call, CountCall, count_answer, count_call, address_count_call, RequestCall, request_answer, request_call}
-use Rattle.promises.specs.Runs.{HostStep, requested, counted, countedAddresses, HostRan, count_of, claim_step, steps_of, Run, live_after, table_after, HostClaim, HostRestores, TwoRuns}
+use Rattle.promises.specs.Runs.{HostStep, requested, counted, counted_addresses, HostRan, count_of, claim_step, steps_of, Run, live_after, table_after, HostClaim, HostRestores, TwoRuns}
 
 -- a request's outcome, place, space and table are those of `serve`
 pub request_step : (t : List ℕ) (who : ℕ) (msg space : List ℕ) (r : RequestCall) → r ≡ request_call t who msg space
@@ -42,7 +42,7 @@ unfolding claim_step
 ran t [] h = tt
 ran t (requested who msg space r ∷ hs) h = (request_step t who msg space r h.0, ran r.table hs h.1)
 ran t (counted c ∷ hs) h = (count_step t c h.0, ran t hs h.1)
-ran t (countedAddresses c ∷ hs) h = (address_count_step t c h.0, ran t hs h.1)
+ran t (counted_addresses c ∷ hs) h = (address_count_step t c h.0, ran t hs h.1)
 
 -- a table was made where the call says 0
 pub is_made : (m : Made) → (make_answer m).outcome ≡ 0 → T m.made

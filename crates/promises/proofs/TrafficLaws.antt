@@ -20,7 +20,7 @@ use Rattle.rules.specs.Repeats.{Once, engine_reply, request_once, reaches}
 use Rattle.repeats.proofs.Reaching.{reaches_engine, reaches_used, rests_table, Told, told}
 use Rattle.repeats.proofs.Repeating.{stored_rests, stored_table, stored_store, stored_reply_lem, stored_told}
 use Rattle.pfcp_session.specs.Calls.{request_call, once_call, request_answer, reply_of}
-use Rattle.promises.specs.Runs.{requested, counted, countedAddresses, HostRan, claim_step, steps_of, Run, live_after, table_after, HostClaim}
+use Rattle.promises.specs.Runs.{requested, counted, counted_addresses, HostRan, claim_step, steps_of, Run, live_after, table_after, HostClaim}
 use Rattle.promises.specs.Traffic.{TrafficStep, once, other, table_of, TrafficRan, engine_call, reached, traffic_table, traffic_allowed, Traffic, traffic_live, traffic_after, TrafficClaim, Handed, last_store, now_stored, told_stored, StoreTold, OnceEach, AtMostOnce}
 use Rattle.promises.proofs.RunLaws.{host_claim}
 
@@ -53,7 +53,7 @@ reached_ran t (once who store msg space r ∷ steps) h =
     (λ n. rw (is_false (arrives who store msg) n) (subst (λ (u : List ℕ). HostRan u (reached steps)) (still_table t who store msg space r h.0 n) (reached_ran r.table steps h.1)))
 reached_ran t (other (requested who msg space r) ∷ steps) h = (h.0.0, reached_ran r.table steps h.1)
 reached_ran t (other (counted c) ∷ steps) h = (h.0.0, reached_ran t steps h.1)
-reached_ran t (other (countedAddresses c) ∷ steps) h = (h.0.0, reached_ran t steps h.1)
+reached_ran t (other (counted_addresses c) ∷ steps) h = (h.0.0, reached_ran t steps h.1)
 
 reached_table : (t : List ℕ) (steps : List TrafficStep) → TrafficRan t steps → last_table t (steps_of (reached steps)) ≡ traffic_table t steps
 unfolding reached traffic_table last_table claim_step
@@ -64,7 +64,7 @@ reached_table t (once who store msg space r ∷ steps) h =
     (λ n. rw (is_false (arrives who store msg) n) (ap (λ (u : List ℕ). last_table u (steps_of (reached steps))) (sym (still_table t who store msg space r h.0 n)) ∙ reached_table r.table steps h.1))
 reached_table t (other (requested who msg space r) ∷ steps) h = reached_table r.table steps h.1
 reached_table t (other (counted c) ∷ steps) h = reached_table t steps h.1
-reached_table t (other (countedAddresses c) ∷ steps) h = reached_table t steps h.1
+reached_table t (other (counted_addresses c) ∷ steps) h = reached_table t steps h.1
 
 reached_allowed : (steps : List TrafficStep) → T (all traffic_allowed steps) → T (all step_allowed (steps_of (reached steps)))
 unfolding reached all claim_step step_allowed traffic_allowed

@@ -13,7 +13,7 @@ use Rattle.rules.specs.Sound.{in_pool, marked}
 use Rattle.rules.specs.Message.{deletion, kind_of, set_deletion}
 use Rattle.rules.specs.Reading.{read_request}
 use Rattle.rules.specs.Request.{Request, NewPdr, NewEndpoint}
-use Rattle.rules.specs.Grants.{Kind, ofPdr, ofEndpoint}
+use Rattle.rules.specs.Grants.{Kind, of_pdr, of_endpoint}
 use Rattle.rules.specs.Stages.{has_key, new_session, removed_pdrs, entry_session}
 use Rattle.rules.specs.Apply.{kept_pdr, kept_endpoint, goes_session}
 use Rattle.rules.specs.Live.{replied, accepted_event, created_teid, created_address}
@@ -118,10 +118,10 @@ unfoldable pub fresh_address : List ℕ → List ℕ → Kind → ℕ → Option
 fresh_address space held k id v = not (chooses_ip v) || not (member (created_address space k id) held)
 
 unfoldable pub fresh_pdr : List ℕ → List ℕ → NewPdr → Bool
-fresh_pdr space held p = fresh_address space held ofPdr p.id p.address
+fresh_pdr space held p = fresh_address space held of_pdr p.id p.address
 
 unfoldable pub fresh_endpoint : List ℕ → List ℕ → NewEndpoint → Bool
-fresh_endpoint space held e = fresh_address space held ofEndpoint e.id e.address
+fresh_endpoint space held e = fresh_address space held of_endpoint e.id e.address
 
 -- * a TEID, and an address of the pool, has one holder in the live set and in the octets of the table;
 -- * the TEID that an accepted request's reply grants to a PDR or an endpoint was held by no record of the table at entry

@@ -9,19 +9,19 @@ use Rattle.rules.specs.Restoring.{session_at}
 use Rattle.rules.specs.Bare.{bare_session, Alike, blank_table}
 use Rattle.rules.specs.Claim.{step_allowed, last_table}
 use Rattle.pfcp_session.specs.Calls.{CountCall, count_call, address_count_call, restoration_call, session_count_call, find_session_call, find_teid_call, peer_count_call, counts_call}
-use Rattle.promises.specs.Runs.{HostStep, requested, counted, countedAddresses, HostRan, steps_of, Run, live_after, table_after}
+use Rattle.promises.specs.Runs.{HostStep, requested, counted, counted_addresses, HostRan, steps_of, Run, live_after, table_after}
 
 -- ---- the same calls and the same answers
 
 -- what the same calls have in common: a request's peer, its message and the length of its reply space, whatever stands in it; or that it is a count
 pub data Called : Type 0 where
   calls_request : ℕ → List ℕ → ℕ → Called
-  callsCount callsAddresses : Called
+  calls_count calls_addresses : Called
 
 unfoldable pub called_in : HostStep → Called
 called_in (requested who msg space r) = calls_request who msg (length space)
-called_in (counted c) = callsCount
-called_in (countedAddresses c) = callsAddresses
+called_in (counted c) = calls_count
+called_in (counted_addresses c) = calls_addresses
 
 -- what a host hears: of a request the outcome, the place, and the reply with its length; or a count
 pub data Heard : Type 0 where
@@ -32,7 +32,7 @@ pub data Heard : Type 0 where
 unfoldable pub heard_in : HostStep → Heard
 heard_in (requested who msg space r) = hears_reply r.outcome r.place r.used (take r.used r.space)
 heard_in (counted c) = hears_count c
-heard_in (countedAddresses c) = hears_count c
+heard_in (counted_addresses c) = hears_count c
 
 -- ---- the tables
 

@@ -7,20 +7,20 @@ use Rattle.octets.specs.Choice.{pick}
 use Rattle.octets.specs.Lists.{all}
 use Rattle.rules.specs.Model.{Settings, Sessions}
 use Rattle.rules.specs.Sound.{Count, broken, free}
-use Rattle.rules.specs.Claim.{Step, asked, told, toldAddresses, step_allowed, last_table, live_set, Restore, restored, restore_allowed, restore_calls, call_in, Restores, Promise}
+use Rattle.rules.specs.Claim.{Step, asked, told, told_addresses, step_allowed, last_table, live_set, Restore, restored, restore_allowed, restore_calls, call_in, Restores, Promise}
 use Rattle.pfcp_session.specs.Calls.{MakeCall, make_call, CountCall, count_call, address_count_call, RequestCall, request_call}
 
 -- a call of pfcp_request with the number of its peer, its message and reply space, or one of pfcp_free_count or pfcp_free_addresses, and what it left
 pub data HostStep : Type 0 where
   requested : ℕ → List ℕ → List ℕ → RequestCall → HostStep
-  counted countedAddresses : CountCall → HostStep
+  counted counted_addresses : CountCall → HostStep
 
 -- each call left what its contract says on the table t, and the next one had the table that it left
 abbrev pub HostRan : List ℕ → List HostStep → Type 0
 HostRan t [] = Unit
 HostRan t (requested who msg space r ∷ steps) = (r ≡ request_call t who msg space) × HostRan r.table steps
 HostRan t (counted c ∷ steps) = (c ≡ count_call t) × HostRan t steps
-HostRan t (countedAddresses c ∷ steps) = (c ≡ address_count_call t) × HostRan t steps
+HostRan t (counted_addresses c ∷ steps) = (c ≡ address_count_call t) × HostRan t steps
 
 -- the same in the claim's words
 unfoldable pub count_of : CountCall → Count
@@ -29,7 +29,7 @@ count_of c = pick (eqb c.outcome 0) (free c.count) broken
 unfoldable pub claim_step : HostStep → Step
 claim_step (requested who msg space r) = asked who msg space (record { outcome = r.outcome; place = r.place; space = r.space; table = r.table })
 claim_step (counted c) = told (count_of c)
-claim_step (countedAddresses c) = toldAddresses (count_of c)
+claim_step (counted_addresses c) = told_addresses (count_of c)
 
 abbrev pub steps_of : List HostStep → List Step
 steps_of hs = map claim_step hs

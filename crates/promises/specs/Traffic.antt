@@ -15,7 +15,7 @@ use Rattle.rules.specs.Claim.{step_allowed, live_set, Promise}
 use Rattle.rules.specs.Store.{Entry, entry, max_entries, store_octets, differ, stored_reply, remember}
 use Rattle.rules.specs.Repeats.{Once, again, reaches}
 use Rattle.pfcp_session.specs.Calls.{MakeCall, make_call, RequestCall, once_call}
-use Rattle.promises.specs.Runs.{HostStep, requested, counted, countedAddresses, HostRan, claim_step, steps_of}
+use Rattle.promises.specs.Runs.{HostStep, requested, counted, counted_addresses, HostRan, claim_step, steps_of}
 
 -- a call of pfcp_request_once with the number of its peer, its store, message and reply space, or another call, and what it left
 pub data TrafficStep : Type 0 where
@@ -26,7 +26,7 @@ pub data TrafficStep : Type 0 where
 abbrev pub table_of : List ℕ → HostStep → List ℕ
 table_of t (requested who msg space r) = r.table
 table_of t (counted c) = t
-table_of t (countedAddresses c) = t
+table_of t (counted_addresses c) = t
 
 abbrev pub table_left : List ℕ → TrafficStep → List ℕ
 table_left t (once who store msg space r) = r.table

@@ -15,7 +15,7 @@ use Rattle.octets.proofs.Put.{length_part}
 use Rattle.octets.proofs.Tests.{pick_either, of_true}
 use Rattle.octets.proofs.Bools.{and-false}
 use Rattle.rules.specs.Elements as rules
-use Rattle.rules.specs.Elements.{Refusal, tooShort, incorrect, cause_of, refuse, value, Fteid, given, choose, v4_flag, v6_flag, ch_flag, chid_flag, wrong_flags, fteid_length, chosen_fields, given_fields, fteid_fields, read_fteid, read_ue_ip}
+use Rattle.rules.specs.Elements.{Refusal, too_short, incorrect, cause_of, refuse, value, Fteid, given, choose, v4_flag, v6_flag, ch_flag, chid_flag, wrong_flags, fteid_length, chosen_fields, given_fields, fteid_fields, read_fteid, read_ue_ip}
 use Rattle.rules.specs.Message.{places_of, number_width}
 use Rattle.rules.specs.Reading.{Reading, faulty, done, refusal_at, and_then, Members, with_pdr_id, with_precedence, with_far, with_pdi, with_source, with_endpoint_id, number_read, far_read, pdi_in, value_read, member_read, unopened}
 use Rattle.rules.specs.Types as ie
@@ -79,21 +79,21 @@ then_twice false c t p a j k = refl
 
 -- a plain member, short or read
 module _ (p : ℕ) (v : List ℕ) (m : Members) where
-  plain_is : (t : ℕ) → member t plain_types ≡ true → plain_read t p v m ≡ pick (ltb (length v) (number_width t)) (refusal_at tooShort t p) (done (plain_put t (plain_number t v) m))
+  plain_is : (t : ℕ) → member t plain_types ≡ true → plain_read t p v m ≡ pick (ltb (length v) (number_width t)) (refusal_at too_short t p) (done (plain_put t (plain_number t v) m))
   unfolding plain_read value_read number_read far_read plain_put plain_number number_width
   plain_is =
-      by_plain (λ t. plain_read t p v m ≡ pick (ltb (length v) (number_width t)) (refusal_at tooShort t p) (done (plain_put t (plain_number t v) m)))
-      (then_pick (ltb (length v) 2) tooShort ie.pdr_id p (number_at 0 2 v) (λ n. done (with_pdr_id n m)))
-      (then_pick (ltb (length v) 4) tooShort ie.precedence p (number_at 0 4 v) (λ n. done (with_precedence n m)))
-      (then_twice (ltb (length v) 4) tooShort ie.far_id p (number_at 0 4 v) some (λ f. done (with_far f m)))
-      (then_pick (ltb (length v) 1) tooShort ie.source_interface p (number_at 0 1 v) (λ n. done (with_source (n % 16) m)))
-      (then_pick (ltb (length v) 1) tooShort ie.endpoint_id p (number_at 0 1 v) (λ n. done (with_endpoint_id n m)))
+      by_plain (λ t. plain_read t p v m ≡ pick (ltb (length v) (number_width t)) (refusal_at too_short t p) (done (plain_put t (plain_number t v) m)))
+      (then_pick (ltb (length v) 2) too_short ie.pdr_id p (number_at 0 2 v) (λ n. done (with_pdr_id n m)))
+      (then_pick (ltb (length v) 4) too_short ie.precedence p (number_at 0 4 v) (λ n. done (with_precedence n m)))
+      (then_twice (ltb (length v) 4) too_short ie.far_id p (number_at 0 4 v) some (λ f. done (with_far f m)))
+      (then_pick (ltb (length v) 1) too_short ie.source_interface p (number_at 0 1 v) (λ n. done (with_source (n % 16) m)))
+      (then_pick (ltb (length v) 1) too_short ie.endpoint_id p (number_at 0 1 v) (λ n. done (with_endpoint_id n m)))
 
 module _ (t p : ℕ) (v row : List ℕ) (k : member t plain_types ≡ true) (z : Tidy row) where
   pub plain_short : {w : ℕ} → w ≡ number_width t → length v < w → Reads (plain_read t p v (row_members row)) row (Refused why.wrong_length t p)
   unfolding cause_of
   plain_short e h =
-      let q : plain_read t p v (row_members row) ≡ refusal_at tooShort t p = plain_is p v (row_members row) t k ∙ rw (← e, lt-ltb _ _ h) in
+      let q : plain_read t p v (row_members row) ≡ refusal_at too_short t p = plain_is p v (row_members row) t k ∙ rw (← e, lt-ltb _ _ h) in
       record { told = sym (ap (λ (x : Reading Members). numbered x) q); tidy = z }
 
   pub plain_long : {w n at : ℕ} → w ≡ number_width t → w ≤ length v → n ≡ plain_number t v → at ≡ there_word t
@@ -128,7 +128,7 @@ no_families e [] t h = let z : ◌≡◌ {A = ℕ} 0 1 = cc in omega arith
 no_families e (f ∷ xs) t h = by_tests (wrong_flags e f) (ltb (length xs) (fteid_length f)) refl refl h
   where
     by_tests : (a b : Bool) → wrong_flags e f ≡ a → ltb (length xs) (fteid_length f) ≡ b
-        → pick a (refuse rules.incorrect) (pick b (refuse rules.tooShort) (value (fteid_fields f xs))) ≡ value (given t [] []) → ⊥
+        → pick a (refuse rules.incorrect) (pick b (refuse rules.too_short) (value (fteid_fields f xs))) ≡ value (given t [] []) → ⊥
     by_tests true b p q h = let z : ◌≡◌ {A = ℕ} 0 1 = cc in omega arith
     by_tests false true p q h = let z : ◌≡◌ {A = ℕ} 0 1 = cc in omega arith
     by_tests false false p q h =

@@ -14,7 +14,7 @@ use Rattle.rules.specs.Model.{Settings, Tunnel}
 use Rattle.unit.specs.declared.Settings.{Settings as Unit}
 use Rattle.unit.specs.Meaning.{settings_of}
 use Rattle.rules.specs.Elements.{fteid_octets, unit_fteid, fseid_octets}
-use Rattle.rules.specs.Grants.{Kind, ofPdr, ofEndpoint, same_kind}
+use Rattle.rules.specs.Grants.{Kind, of_pdr, of_endpoint, same_kind}
 use Rattle.rules.specs.Stages.{Verdict}
 use Rattle.rules.specs.Reply.{Report, Reports, no_reports, element, unit_element, tunnel_part, address_part, chosen_elements, created_pdr_element, created_pdr_content, created_endpoint_element, created_endpoint_content, created, offending_element, node_id_element, unit_fseid, accepted_part, reply_body}
 use Rattle.rules.specs.Types as ie
@@ -100,18 +100,18 @@ module _ (s : Settings) (four : length s.ipv4 ≤ 4) where
         (omega (arith, length-append (element ie.endpoint_id (g.id ∷ [])) (chosen_elements s g), length_element ie.endpoint_id (g.id ∷ []), length_chosen g))
 
     -- a report has one group, of one kind or the other
-    one_group : (k : Kind) (g : Report) → length (groups ofPdr s (told k g ∷ [])) + length (groups ofEndpoint s (told k g ∷ [])) ≤ 48
+    one_group : (k : Kind) (g : Report) → length (groups of_pdr s (told k g ∷ [])) + length (groups of_endpoint s (told k g ∷ [])) ≤ 48
     unfolding groups group reports_of keep is_told same_kind concat_map
-    one_group ofPdr g = omega (arith, length-append (created_pdr_element s g) [], length_pdr g)
-    one_group ofEndpoint g = omega (arith, length-append (created_endpoint_element s g) [], length_endpoint g)
+    one_group of_pdr g = omega (arith, length-append (created_pdr_element s g) [], length_pdr g)
+    one_group of_endpoint g = omega (arith, length-append (created_endpoint_element s g) [], length_endpoint g)
 
-    length_groups : (gs : List Told) → length (groups ofPdr s gs) + length (groups ofEndpoint s gs) ≤ 48 * length gs
-    length_groups [] = rw (groups_none ofPdr s, groups_none ofEndpoint s) (omega arith)
+    length_groups : (gs : List Told) → length (groups of_pdr s gs) + length (groups of_endpoint s gs) ≤ 48 * length gs
+    length_groups [] = rw (groups_none of_pdr s, groups_none of_endpoint s) (omega arith)
     length_groups (g ∷ gs) =
         let first = one_group g.kind g.report in
         let more = length_groups gs in
-        rw (groups_more ofPdr s g gs, groups_more ofEndpoint s g gs)
-        (omega (arith, length-append (groups ofPdr s (g ∷ [])) (groups ofPdr s gs), length-append (groups ofEndpoint s (g ∷ [])) (groups ofEndpoint s gs)))
+        rw (groups_more of_pdr s g gs, groups_more of_endpoint s g gs)
+        (omega (arith, length-append (groups of_pdr s (g ∷ [])) (groups of_pdr s gs), length-append (groups of_endpoint s (g ∷ [])) (groups of_endpoint s gs)))
 
     pub length_created_most : (gs : List Told) → length (created s (all_reports gs)) ≤ 48 * length gs
     unfolding kind_in

@@ -10,7 +10,7 @@ use lib.Dec.{ltb}
 use borrow.Author.Tests.{ne_eqb, lt-ltb, le-ltb}
 use Rattle.octets.specs.Choice.{pick, value_or}
 use Rattle.octets.specs.Octets.{bit, number_at, octet_at}
-use Rattle.rules.specs.Elements.{Refusal, tooShort, incorrect, cause_of, refuse, value, read_fseid, seid_answer, fseid_length}
+use Rattle.rules.specs.Elements.{Refusal, too_short, incorrect, cause_of, refuse, value, read_fseid, seid_answer, fseid_length}
 use Rattle.rules.specs.Request as rules
 use Rattle.rules.specs.Reading.{Reading, done, and_then, named, once, seid_read, flags_read}
 use Rattle.rules.specs.Request.{with_seid, with_restores}
@@ -38,7 +38,7 @@ module _ (p : ℕ) (v : List ℕ) where
           let e : suc k ≡ n = cc in
           omega arith
 
-      by_tests : (a b : Bool) (k : ℕ) → pick a (refuse incorrect) (pick b (refuse tooShort) (seid_answer k)) ≡ value n → n ≡ 0 → ⊥
+      by_tests : (a b : Bool) (k : ℕ) → pick a (refuse incorrect) (pick b (refuse too_short) (seid_answer k)) ≡ value n → n ≡ 0 → ⊥
       by_tests true b k h z = let y : ◌≡◌ {A = ℕ} 0 1 = cc in omega arith
       by_tests false true k h z = let y : ◌≡◌ {A = ℕ} 0 1 = cc in omega arith
       by_tests false false k h z = by_seid k h z

@@ -188,7 +188,8 @@ struct Extent {
 // Reads the front of the file into t, which has room for the longest table.
 fn read_front(file: &mut impl Read, t: &mut [u8]) -> io::Result<Extent>
     requires { length t.old ≤ 38721 }
-    ensures { IfOk result (λ extent. extent.held ≤ length t.new) }
+    ensures within { IfOk result (λ extent. extent.held ≤ length t.new) }
+    ensures room { length t.new ≡ length t.old }
 {
     let held = input::read_full(file, t)?;
     let all = held + rest_of(file)?;

@@ -9,7 +9,7 @@ use Rattle.octets.specs.Octets.{be}
 use Rattle.rules.specs.Model.{Pdr, Session}
 use Rattle.rules.specs.Layout.{encode, view_sessions}
 use Rattle.rules.specs.Sound.{Count, free, count_addresses}
-use Rattle.rules.specs.Grants.{ofPdr, ofEndpoint}
+use Rattle.rules.specs.Grants.{of_pdr, of_endpoint}
 use Rattle.rules.specs.Reply.{element, message}
 use Rattle.rules.specs.Serve.{Served}
 use Rattle.rules.specs.Live.{reply_cause, created_address}
@@ -80,7 +80,7 @@ pub address_shared : addresses shared ≡ (some low ∷ some low ∷ []) ∷ []
 unfolding story
 address_shared = refl
 
-pub address_reported : map (created_address shared.space ofPdr) (1 ∷ 2 ∷ []) ≡ low ∷ low ∷ []
+pub address_reported : map (created_address shared.space of_pdr) (1 ∷ 2 ∷ []) ≡ low ∷ low ∷ []
 unfolding story
 address_reported = refl
 
@@ -89,7 +89,7 @@ unfolding story
 address_counted = refl
 
 -- an endpoint's Created group lists both that it chose
-pub endpoint_both : created_address (ask (encode (unit 4 2) []) (establish 1 (endpoint_ip 3 any ++ create_ip 1 any))).space ofEndpoint 3 ≡ low
+pub endpoint_both : created_address (ask (encode (unit 4 2) []) (establish 1 (endpoint_ip 3 any ++ create_ip 1 any))).space of_endpoint 3 ≡ low
 unfolding story
 endpoint_both = refl
 
@@ -100,7 +100,7 @@ unfolding story
 kept_by_second = refl
 
 -- another session gets the next one while PDR 2 holds it, and it itself once PDR 2 is gone
-pub other_while_held : created_address (ask first.table (establish 2 (create_ip 1 any))).space ofPdr 1 ≡ high
+pub other_while_held : created_address (ask first.table (establish 2 (create_ip 1 any))).space of_pdr 1 ≡ high
 unfolding story
 other_while_held = refl
 
@@ -108,13 +108,13 @@ pub freed_with_last : left last ≡ left_as 1 2
 unfolding story
 freed_with_last = refl
 
-pub other_once_free : created_address (ask last.table (establish 2 (create_ip 1 any))).space ofPdr 1 ≡ low
+pub other_once_free : created_address (ask last.table (establish 2 (create_ip 1 any))).space of_pdr 1 ≡ low
 unfolding story
 other_once_free = refl
 
 -- ---- the accident: not remembered into the next request
 
-pub not_remembered : created_address (ask shared.table (modify 1 (create_ip 3 any))).space ofPdr 3 ≡ high
+pub not_remembered : created_address (ask shared.table (modify 1 (create_ip 3 any))).space of_pdr 3 ≡ high
 unfolding story
 not_remembered = refl
 

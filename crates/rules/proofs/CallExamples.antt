@@ -7,7 +7,7 @@ use Rattle.octets.specs.Octets.{be, zeros}
 use Rattle.rules.specs.Model.{Settings}
 use Rattle.rules.specs.Layout.{encode}
 use Rattle.rules.specs.Sound.{Count, free, count_free}
-use Rattle.rules.specs.Grants.{ofPdr}
+use Rattle.rules.specs.Grants.{of_pdr}
 use Rattle.rules.specs.Reply.{element, message}
 use Rattle.rules.specs.Serve.{serve, Served}
 use Rattle.rules.specs.Live.{reply_cause, created_teid, reply_in}
@@ -136,7 +136,7 @@ removed2 = ask removed1.table (modify 1 (remove 2))
 
 -- the TEIDs in the Created PDRs 1, 2 and 3
 unfoldable pub teids : Served → List ℕ
-teids r = map (created_teid r.space ofPdr) (1 ∷ 2 ∷ 3 ∷ [])
+teids r = map (created_teid r.space of_pdr) (1 ∷ 2 ∷ 3 ∷ [])
 
 story : ℕ
 unfolding computing calls seen ask three removed1 removed2 teids
@@ -182,7 +182,7 @@ pool_same_request_cause = refl
 unfoldable pub first9 : Served
 first9 = ask (encode (unit 4 3) []) (establish 1 (create 1 (with_id 9)))
 
-pub choose_id_forgotten : created_teid (ask first9.table (modify 1 (create 2 (with_id 9)))).space ofPdr 2 ≡ 4097
+pub choose_id_forgotten : created_teid (ask first9.table (modify 1 (create 2 (with_id 9)))).space of_pdr 2 ≡ 4097
 unfolding story first9
 choose_id_forgotten = refl
 

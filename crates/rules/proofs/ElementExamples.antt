@@ -7,7 +7,7 @@ use mathlib.Core.Bool.{true, false}
 use mathlib.Core.Option.{none, some}
 use mathlib.Core.List.{List, [], ◌∷◌, ◌++◌, map}
 use Rattle.octets.specs.Octets.{be, number, zeros}
-use Rattle.rules.specs.Elements.{tooShort, incorrect, refuse, value, Answer, Fteid, Fqcsid, given, choose, sets, removal, read_fteid, read_fqcsid, read_fseid, ue_given, ueChoose, ueOther, read_ue_ip, ue_octets}
+use Rattle.rules.specs.Elements.{too_short, incorrect, refuse, value, Answer, Fteid, Fqcsid, given, choose, sets, removal, read_fteid, read_fqcsid, read_fseid, ue_given, ue_choose, ue_other, read_ue_ip, ue_octets}
 use Rattle.rules.proofs.Computing.{computing}
 
 -- the F-TEID values, in 01's order
@@ -65,10 +65,10 @@ pub worked_elements :
           ∷ value (given 4096 (192 ∷ 0 ∷ 2 ∷ 1 ∷ []) [])
           ∷ refuse incorrect
           ∷ refuse incorrect
-          ∷ refuse tooShort
+          ∷ refuse too_short
           ∷ value (choose true false none)
           ∷ value (given 0 (zeros 4) (zeros 16))
-          ∷ refuse tooShort
+          ∷ refuse too_short
           ∷ [];
       fqcsids =
           value (sets 0 (192 ∷ 0 ∷ 2 ∷ 10 ∷ []) (5 ∷ []) 1)
@@ -86,7 +86,7 @@ worked_elements = refl
 -- an F-SEID's bit 1 is V6 and bit 2 is V4
 pub fseid_bits :
     map read_fseid ((0x02 ∷ be 8 5 ++ zeros 4) ∷ (0x01 ∷ be 8 5 ++ zeros 4) ∷ (0x01 ∷ be 8 5 ++ zeros 16) ∷ (0x04 ∷ be 8 5) ∷ (0x02 ∷ zeros 12) ∷ [] ∷ [])
-    ≡ value 5 ∷ refuse tooShort ∷ value 5 ∷ refuse incorrect ∷ refuse incorrect ∷ refuse tooShort ∷ []
+    ≡ value 5 ∷ refuse too_short ∷ value 5 ∷ refuse incorrect ∷ refuse incorrect ∷ refuse too_short ∷ []
 unfolding computing
 fseid_bits = refl
 
@@ -104,19 +104,19 @@ pub ue_addresses :
     ∷ (0x86 ∷ 0x0a ∷ 0x00 ∷ 0x00 ∷ 0x01 ∷ [])
     ∷ [])
     ≡ value (ue_given 0x0a000001)
-    ∷ value ueChoose
+    ∷ value ue_choose
     ∷ refuse incorrect
     ∷ refuse incorrect
-    ∷ refuse tooShort
-    ∷ refuse tooShort
-    ∷ value ueOther
-    ∷ value ueOther
+    ∷ refuse too_short
+    ∷ refuse too_short
+    ∷ value ue_other
+    ∷ value ue_other
     ∷ value (ue_given 0x0a000001)
     ∷ []
 unfolding computing
 ue_addresses = refl
 
 -- what is written of the first two
-pub ue_written : map ue_octets (ue_given 0x0a000001 ∷ ueChoose ∷ []) ≡ (0x02 ∷ 0x0a ∷ 0x00 ∷ 0x00 ∷ 0x01 ∷ []) ∷ (0x10 ∷ []) ∷ []
+pub ue_written : map ue_octets (ue_given 0x0a000001 ∷ ue_choose ∷ []) ≡ (0x02 ∷ 0x0a ∷ 0x00 ∷ 0x00 ∷ 0x01 ∷ []) ∷ (0x10 ∷ []) ∷ []
 unfolding computing
 ue_written = refl

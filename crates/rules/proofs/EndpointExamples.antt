@@ -8,7 +8,7 @@ use mathlib.Core.List.{List, [], ◌∷◌, ◌++◌, map}
 use Rattle.octets.specs.Octets.{same_octets}
 use Rattle.rules.specs.Model.{endpoint, Pdr, Endpoint, Session, Sessions, pdr_id, endpoint_id}
 use Rattle.rules.specs.Layout.{encode, view_sessions}
-use Rattle.rules.specs.Grants.{ofPdr}
+use Rattle.rules.specs.Grants.{of_pdr}
 use Rattle.rules.specs.Reply.{element}
 use Rattle.rules.specs.Serve.{Served}
 use Rattle.rules.specs.Live.{created_teid}
@@ -83,7 +83,7 @@ pub removed_endpoint_goes : endpoints_left alone ≡ (4 ∷ []) ∷ []
 unfolding story
 removed_endpoint_goes = refl
 
-pub removed_teid_free : created_teid (ask alone.table (modify 1 (create 1 own))).space ofPdr 1 ≡ 4096
+pub removed_teid_free : created_teid (ask alone.table (modify 1 (create 1 own))).space of_pdr 1 ≡ 4096
 unfolding story
 removed_teid_free = refl
 

@@ -8,10 +8,10 @@ use Rattle.octets.specs.Choice.{pick, bind_option, is_nil, head_or}
 use Rattle.octets.specs.Octets.{same_octets}
 use Rattle.octets.specs.Lists.{keep, member, any, insert_by, insert_all}
 use Rattle.rules.specs.Model.{key_for, Tunnel, Match, neither, tunnel, endpoint, Pdr, Endpoint, Csid, Session, Sessions, pdr_id, endpoint_id, node_type_of, session_key, has_peer}
-use Rattle.rules.specs.Elements.{Fteid, given, choose, UeIp, ue_given, ueChoose, ueOther, Fqcsid, sets, removal}
+use Rattle.rules.specs.Elements.{Fteid, given, choose, UeIp, ue_given, ue_choose, ue_other, Fqcsid, sets, removal}
 use Rattle.rules.specs.Message.{deletion, set_deletion}
 use Rattle.rules.specs.Request.{NewPdr, NewEndpoint, Change, CsidChanges, cleared, changed, Request}
-use Rattle.rules.specs.Grants.{Kind, ofPdr, ofEndpoint, Got}
+use Rattle.rules.specs.Grants.{Kind, of_pdr, of_endpoint, Got}
 use Rattle.rules.specs.Stages.{has_key, at_entry, removed_pdrs}
 
 -- ---- records
@@ -32,8 +32,8 @@ match_from chosen (some v) e = tunnel (tunnel_from chosen v)
 -- the address is the request's, or the one that was chosen (02 (v))
 unfoldable pub address_got : ℕ → UeIp → Option ℕ
 address_got chosen (ue_given a) = some a
-address_got chosen ueChoose = some chosen
-address_got chosen ueOther = none
+address_got chosen ue_choose = some chosen
+address_got chosen ue_other = none
 
 unfoldable pub address_from : ℕ → Option UeIp → Option ℕ
 address_from chosen v = bind_option v (address_got chosen)
@@ -43,11 +43,11 @@ abbrev pub pdr_by : NewPdr → Match → Option ℕ → Pdr
 pdr_by p q u = record { id = p.id; precedence = p.precedence; far = p.far; source = p.source; match = q; address = u }
 
 unfoldable pub made_pdr : (Kind → ℕ → Got) → NewPdr → Pdr
-made_pdr got p = pdr_by p (match_from (got ofPdr p.id).teid p.local p.endpoint) (address_from (got ofPdr p.id).address p.address)
+made_pdr got p = pdr_by p (match_from (got of_pdr p.id).teid p.local p.endpoint) (address_from (got of_pdr p.id).address p.address)
 
 unfoldable pub made_endpoint : (Kind → ℕ → Got) → NewEndpoint → Endpoint
 made_endpoint got e =
-    record { id = e.id; local = tunnel_from (got ofEndpoint e.id).teid e.local; address = address_from (got ofEndpoint e.id).address e.address }
+    record { id = e.id; local = tunnel_from (got of_endpoint e.id).teid e.local; address = address_from (got of_endpoint e.id).address e.address }
 
 -- what an Update PDR does not name stays
 unfoldable pub or_old : {A : Type 0} → A → Option A → A

@@ -9,24 +9,24 @@ use Rattle.rules.specs.Live.{Event, replied, counted, live}
 -- a call: a request with its peer's number, its message and reply space, or a count of free TEIDs or addresses
 pub data Call : Type 0 where
   request : ℕ → List ℕ → List ℕ → Call
-  count countIps : Call
+  count count_ips : Call
 
 -- any octets at all
 unfoldable pub call_allowed : Call → Bool
 call_allowed (request who msg space) = octets msg && octets space
 call_allowed count = true
-call_allowed countIps = true
+call_allowed count_ips = true
 
 -- the table after a call, and what the host sees of it
 unfoldable pub table_after_call : List ℕ → Call → List ℕ
 table_after_call t (request who msg space) = (serve t who msg space).table
 table_after_call t count = t
-table_after_call t countIps = t
+table_after_call t count_ips = t
 
 unfoldable pub event_of : List ℕ → Call → Event
 event_of t (request who msg space) = replied who msg (serve t who msg space).outcome (serve t who msg space).space
 event_of t count = counted
-event_of t countIps = counted
+event_of t count_ips = counted
 
 -- the same for calls one after the other
 unfoldable pub table_after_all : List ℕ → List Call → List ℕ

@@ -19,7 +19,7 @@ use Rattle.rules.specs.Serve.{serve, Served}
 use Rattle.rules.specs.Live.{Event, replied, counted, accepted_event, live, reply_cause}
 use Rattle.rules.specs.Restoration.{Sender, sender_allowed, restoration}
 use Rattle.rules.specs.Causes as why
-use Rattle.rules.specs.Calls.{Call, request, count, countIps}
+use Rattle.rules.specs.Calls.{Call, request, count, count_ips}
 use Rattle.rules.specs.Request.{Request}
 use Rattle.rules.specs.Reading.{read_request}
 use Rattle.rules.specs.Message.{kind_of}
@@ -31,33 +31,33 @@ use Rattle.rules.specs.Stages.{needed, too_few_teids, too_many_sessions, too_man
 -- addresses and its answer
 pub data Step : Type 0 where
   asked : ℕ → List ℕ → List ℕ → Served → Step
-  told toldAddresses : Count → Step
+  told told_addresses : Count → Step
 
 -- any octets at all
 unfoldable pub step_allowed : Step → Bool
 step_allowed (asked who msg space r) = octets msg && octets space
 step_allowed (told c) = true
-step_allowed (toldAddresses c) = true
+step_allowed (told_addresses c) = true
 
 -- on the table t each call left what its contract says, and the next call had the table that it left
 abbrev pub Ran : List ℕ → List Step → Type 0
 Ran t [] = Unit
 Ran t (asked who msg space r ∷ steps) = (r ≡ serve t who msg space) × Ran r.table steps
 Ran t (told c ∷ steps) = (c ≡ count_free t) × Ran t steps
-Ran t (toldAddresses c ∷ steps) = (c ≡ count_addresses t) × Ran t steps
+Ran t (told_addresses c ∷ steps) = (c ≡ count_addresses t) × Ran t steps
 
 -- the table that the last one left
 unfoldable pub last_table : List ℕ → List Step → List ℕ
 last_table t [] = t
 last_table t (asked who msg space r ∷ steps) = last_table r.table steps
 last_table t (told c ∷ steps) = last_table t steps
-last_table t (toldAddresses c ∷ steps) = last_table t steps
+last_table t (told_addresses c ∷ steps) = last_table t steps
 
 -- what the live set is folded from: message, outcome and reply, never the table
 unfoldable pub event_in : Step → Event
 event_in (asked who msg space r) = replied who msg r.outcome r.space
 event_in (told c) = counted
-event_in (toldAddresses c) = counted
+event_in (told_addresses c) = counted
 
 unfoldable pub live_set : List Step → Sessions
 live_set steps = live (map event_in steps)
@@ -88,7 +88,7 @@ restore_calls s rs = map (restore_call s) rs
 unfoldable pub call_in : Step → Call
 call_in (asked who msg space r) = request who msg space
 call_in (told c) = count
-call_in (toldAddresses c) = countIps
+call_in (told_addresses c) = count_ips
 
 -- ---- what is promised
 

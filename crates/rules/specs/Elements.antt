@@ -12,13 +12,13 @@ use Rattle.rules.specs.Causes as why
 
 -- why an element is refused: a required one is missing (conditional: an endpoint's F-TEID), short, or bad
 pub data Refusal : Type 0 where
-  missing conditional tooShort incorrect : Refusal
+  missing conditional too_short incorrect : Refusal
 
 -- 01's causes
 unfoldable pub cause_of : Refusal → ℕ
 cause_of missing = why.mandatory_missing
 cause_of conditional = why.conditional_missing
-cause_of tooShort = why.wrong_length
+cause_of too_short = why.wrong_length
 cause_of incorrect = why.incorrect
 
 -- what a reader answers: a value, or why it refuses
@@ -60,7 +60,7 @@ chid_flag f = bit 3 f
 
 -- no family, or CHID without CH; in an endpoint any CHID
 unfoldable pub wrong_flags : Bool → ℕ → Bool
-wrong_flags inEndpoint f = not (v4_flag f || v6_flag f) || (chid_flag f && (inEndpoint || not (ch_flag f)))
+wrong_flags in_endpoint f = not (v4_flag f || v6_flag f) || (chid_flag f && (in_endpoint || not (ch_flag f)))
 
 -- how many octets the flags octet asks for after it
 unfoldable pub fteid_length : ℕ → ℕ
@@ -78,10 +78,10 @@ fteid_fields f xs = pick (ch_flag f) (chosen_fields f xs) (given_fields f xs)
 
 -- 01's order: empty 68; wrong flags 69; short 68
 unfoldable pub read_fteid : Bool → List ℕ → Answer Fteid
-read_fteid inEndpoint [] = refuse tooShort
-read_fteid inEndpoint (f ∷ xs) =
-    pick (wrong_flags inEndpoint f) (refuse incorrect)
-    (pick (ltb (length xs) (fteid_length f)) (refuse tooShort) (value (fteid_fields f xs)))
+read_fteid in_endpoint [] = refuse too_short
+read_fteid in_endpoint (f ∷ xs) =
+    pick (wrong_flags in_endpoint f) (refuse incorrect)
+    (pick (ltb (length xs) (fteid_length f)) (refuse too_short) (value (fteid_fields f xs)))
 
 unfoldable pub has_v4 : Fteid → Bool
 has_v4 (given t a b) = not (is_nil a)
@@ -108,9 +108,9 @@ given_tests t a b = ltb t (2 ^ 32) ∷ address_of 4 a ∷ address_of 16 b ∷ no
 
 -- the rules for a value; in an endpoint without a CHOOSE ID
 unfoldable pub fteid_allowed : Bool → Fteid → Bool
-fteid_allowed inEndpoint (given t a b) = all_of (given_tests t a b)
-fteid_allowed inEndpoint (choose v4 v6 none) = v4 || v6
-fteid_allowed inEndpoint (choose v4 v6 (some i)) = (v4 || v6) && ltb i 256 && not inEndpoint
+fteid_allowed in_endpoint (given t a b) = all_of (given_tests t a b)
+fteid_allowed in_endpoint (choose v4 v6 none) = v4 || v6
+fteid_allowed in_endpoint (choose v4 v6 (some i)) = (v4 || v6) && ltb i 256 && not in_endpoint
 
 -- the value's octets
 unfoldable pub fteid_octets : Fteid → List ℕ
@@ -119,7 +119,7 @@ fteid_octets (choose v4 v6 none) = (flag v4 + 2 * flag v6 + 4) ∷ []
 fteid_octets (choose v4 v6 (some i)) = (flag v4 + 2 * flag v6 + 12) ∷ i ∷ []
 
 unfoldable pub write_fteid : Bool → Fteid → List ℕ → Written
-write_fteid inEndpoint v space = write_if (fteid_allowed inEndpoint v) (fteid_octets v) space
+write_fteid in_endpoint v space = write_if (fteid_allowed in_endpoint v) (fteid_octets v) space
 
 -- a held F-TEID with the unit's addresses
 unfoldable pub unit_fteid : Settings → Tunnel → Fteid
@@ -130,7 +130,7 @@ unit_fteid s t = given t.teid (pick t.v4 s.ipv4 []) (pick t.v6 s.ipv6 [])
 -- A value: an address as a number; a CHOOSE; or one with what the unit does not have, of which no more is read (V6, IPv6D, CHV6, IP6PL)
 pub data UeIp : Type 0 where
   ue_given : ℕ → UeIp
-  ueChoose ueOther : UeIp
+  ue_choose ue_other : UeIp
 
 -- the flags octet: V6 1, V4 2, S/D 4, IPv6D 8, CHV4 16, CHV6 32, IP6PL 64; S/D and bit 8 are ignored
 abbrev pub ue_v4 : ℕ → Bool
@@ -144,23 +144,23 @@ ue_unsupported f = bit 0 f || bit 3 f || bit 5 f || bit 6 f
 
 -- the fields after the flags octet f
 unfoldable pub ue_fields : ℕ → List ℕ → Answer UeIp
-ue_fields f xs = pick (ue_chv4 f) (value ueChoose) (pick (ltb (length xs) 4) (refuse tooShort) (value (ue_given (number_at 0 4 xs))))
+ue_fields f xs = pick (ue_chv4 f) (value ue_choose) (pick (ltb (length xs) 4) (refuse too_short) (value (ue_given (number_at 0 4 xs))))
 
 -- 02's order: empty 68; what is not supported; not just one of V4, CHV4 69; short 68
 unfoldable pub read_ue_ip : List ℕ → Answer UeIp
-read_ue_ip [] = refuse tooShort
-read_ue_ip (f ∷ xs) = pick (ue_unsupported f) (value ueOther) (pick (same_bool (ue_v4 f) (ue_chv4 f)) (refuse incorrect) (ue_fields f xs))
+read_ue_ip [] = refuse too_short
+read_ue_ip (f ∷ xs) = pick (ue_unsupported f) (value ue_other) (pick (same_bool (ue_v4 f) (ue_chv4 f)) (refuse incorrect) (ue_fields f xs))
 
 -- what is written: an address, or a CHOOSE
 unfoldable pub ue_allowed : UeIp → Bool
 ue_allowed (ue_given a) = ltb a (2 ^ 32)
-ue_allowed ueChoose = true
-ue_allowed ueOther = false
+ue_allowed ue_choose = true
+ue_allowed ue_other = false
 
 unfoldable pub ue_octets : UeIp → List ℕ
 ue_octets (ue_given a) = 2 ∷ be 4 a
-ue_octets ueChoose = 16 ∷ []
-ue_octets ueOther = []
+ue_octets ue_choose = 16 ∷ []
+ue_octets ue_other = []
 
 unfoldable pub write_ue_ip : UeIp → List ℕ → Written
 write_ue_ip v space = write_if (ue_allowed v) (ue_octets v) space
@@ -168,18 +168,18 @@ write_ue_ip v space = write_if (ue_allowed v) (ue_octets v) space
 -- the address that it gives, if any; does it choose one; is it not supported
 unfoldable pub ue_address_of : UeIp → Option ℕ
 ue_address_of (ue_given a) = some a
-ue_address_of ueChoose = none
-ue_address_of ueOther = none
+ue_address_of ue_choose = none
+ue_address_of ue_other = none
 
 unfoldable pub ue_chooses : UeIp → Bool
 ue_chooses (ue_given a) = false
-ue_chooses ueChoose = true
-ue_chooses ueOther = false
+ue_chooses ue_choose = true
+ue_chooses ue_other = false
 
 unfoldable pub ue_strange : UeIp → Bool
 ue_strange (ue_given a) = false
-ue_strange ueChoose = false
-ue_strange ueOther = true
+ue_strange ue_choose = false
+ue_strange ue_other = true
 
 -- ---- FQ-CSID
 
@@ -229,12 +229,12 @@ checked_csid m t address cs n =
 -- the octets after the first, for m CSIDs and Node-ID type t with an address of a octets
 unfoldable pub csid_rest : ℕ → ℕ → ℕ → List ℕ → Answer Fqcsid
 csid_rest m t a xs =
-    pick (ltb (length xs) (a + 2 * m + 1)) (refuse tooShort)
+    pick (ltb (length xs) (a + 2 * m + 1)) (refuse too_short)
     (checked_csid m t (part 0 a xs) (csids_read m (drop a xs)) (octet_at xs (a + 2 * m) % 16))
 
 -- 01's order: empty 68; type 69; short 68; the rest 69
 unfoldable pub read_fqcsid : List ℕ → Answer Fqcsid
-read_fqcsid [] = refuse tooShort
+read_fqcsid [] = refuse too_short
 read_fqcsid (h ∷ xs) = pick (ltb 2 (h / 16)) (refuse incorrect) (csid_rest (h % 16) (h / 16) (address_length (h / 16)) xs)
 
 unfoldable pub node_of : Fqcsid → ℕ
@@ -268,10 +268,10 @@ seid_answer n = pick (eqb n 0) (refuse incorrect) (value n)
 
 -- 01's order: empty 68; no family 69; short 68; SEID 0 69. Only the SEID is kept.
 unfoldable pub read_fseid : List ℕ → Answer ℕ
-read_fseid [] = refuse tooShort
+read_fseid [] = refuse too_short
 read_fseid (f ∷ xs) =
     pick (not (bit 0 f || bit 1 f)) (refuse incorrect)
-    (pick (ltb (length xs) (fseid_length f)) (refuse tooShort) (seid_answer (number_at 0 8 xs)))
+    (pick (ltb (length xs) (fseid_length f)) (refuse too_short) (seid_answer (number_at 0 8 xs)))
 
 -- an F-SEID's octets; an address is empty where its family is not there
 unfoldable pub fseid_octets : ℕ → List ℕ → List ℕ → List ℕ

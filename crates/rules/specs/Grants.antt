@@ -10,13 +10,13 @@ use Rattle.rules.specs.Request.{NewPdr, NewEndpoint, Request}
 
 -- the two kinds of record that hold TEIDs
 pub data Kind : Type 0 where
-  ofPdr ofEndpoint : Kind
+  of_pdr of_endpoint : Kind
 
 unfoldable pub same_kind : Kind → Kind → Bool
-same_kind ofPdr ofPdr = true
-same_kind ofPdr ofEndpoint = false
-same_kind ofEndpoint ofPdr = false
-same_kind ofEndpoint ofEndpoint = true
+same_kind of_pdr of_pdr = true
+same_kind of_pdr of_endpoint = false
+same_kind of_endpoint of_pdr = false
+same_kind of_endpoint of_endpoint = true
 
 -- one CHOOSE of a request: whose it is, its families, and its CHOOSE ID if any
 pub record Choice : Type 0 where
@@ -37,10 +37,10 @@ choice_of k i (given t a b) = none
 choice_of k i (choose v4 v6 c) = some (record { kind = k; id = i; v4 = v4; v6 = v6; choose_id = c })
 
 unfoldable pub endpoint_choice : NewEndpoint → Option Choice
-endpoint_choice e = choice_of ofEndpoint e.id e.local
+endpoint_choice e = choice_of of_endpoint e.id e.local
 
 unfoldable pub pdr_choice : NewPdr → Option Choice
-pdr_choice p = bind_option p.local (choice_of ofPdr p.id)
+pdr_choice p = bind_option p.local (choice_of of_pdr p.id)
 
 -- the order in which TEIDs are given: endpoints in request order, then PDRs
 unfoldable pub choices : Request → List Choice

@@ -7,7 +7,7 @@ use Rattle.octets.specs.Lists.{find_by}
 use Rattle.rules.specs.Model.{Sessions}
 use Rattle.rules.specs.Message.{Element, elements, body, has_type, content_in, content_of, field_or0, kind_of, header_seid}
 use Rattle.rules.specs.Reading.{read_request}
-use Rattle.rules.specs.Grants.{Kind, ofPdr, ofEndpoint, Got}
+use Rattle.rules.specs.Grants.{Kind, of_pdr, of_endpoint, Got}
 use Rattle.rules.specs.Apply.{follow}
 use Rattle.rules.specs.Types as ie
 use Rattle.rules.specs.Causes as why
@@ -31,12 +31,12 @@ reply_cause space = octet_at (value_or [] (content_of ie.cause (reply_elements s
 
 -- the Created group of a kind, and the element that holds its ID
 unfoldable pub created_type : Kind → ℕ
-created_type ofPdr = ie.created_pdr
-created_type ofEndpoint = ie.created_endpoint
+created_type of_pdr = ie.created_pdr
+created_type of_endpoint = ie.created_endpoint
 
 unfoldable pub id_element : Kind → ℕ
-id_element ofPdr = ie.pdr_id
-id_element ofEndpoint = ie.endpoint_id
+id_element of_pdr = ie.pdr_id
+id_element of_endpoint = ie.endpoint_id
 
 unfoldable pub is_created : Kind → ℕ → Element → Bool
 is_created k i e = has_type (created_type k) e && eqb (field_or0 (id_element k) (elements 0 e.content)) i

@@ -7,7 +7,7 @@ use Rattle.octets.specs.Choice.{pick, bind_option, is_some, is_nil}
 use Rattle.octets.specs.Octets.{number_at, octet_at, bit}
 use Rattle.octets.specs.Lists.{member, keep}
 use Rattle.rules.specs.Types as ie
-use Rattle.rules.specs.Elements.{Refusal, missing, conditional, tooShort, incorrect, Answer, refuse, value, Fteid, UeIp, Fqcsid, sets, removal, read_fteid, read_ue_ip, read_fqcsid, read_fseid, node_of}
+use Rattle.rules.specs.Elements.{Refusal, missing, conditional, too_short, incorrect, Answer, refuse, value, Fteid, UeIp, Fqcsid, sets, removal, read_fteid, read_ue_ip, read_fqcsid, read_fseid, node_of}
 use Rattle.rules.specs.Message.{establishment, modification, set_deletion, kind_of, header_length, body, inside, Element, elements, acted_on, places_of, has_type, number_width}
 use Rattle.rules.specs.Request.{Item, creates_pdr, creates_endpoint, updates_pdr, removes_pdr, removes_endpoint, sets_csid, clears_csids, updates_endpoint, Request, Draft, empty_draft, with_seid, with_restores, with_node, with_item, pdr_in, endpoint_in, change_in, gone_pdr_in, gone_endpoint_in, csid_in, clears, strange_address, is_unsupported, restoring_in, request_from, creates_any, listing}
 
@@ -97,7 +97,7 @@ member_there t m =
 
 -- the number of a member with so many octets
 unfoldable pub number_read : ℕ → ℕ → List ℕ → Reading ℕ
-number_read t p v = pick (ltb (length v) (number_width t)) (refusal_at tooShort t p) (done (number_at 0 (number_width t) v))
+number_read t p v = pick (ltb (length v) (number_width t)) (refusal_at too_short t p) (done (number_at 0 (number_width t) v))
 
 -- a FAR ID of null length takes the FAR ID away, in an Update PDR
 unfoldable pub far_read : ℕ → ℕ → List ℕ → Reading (Option ℕ)
@@ -184,7 +184,7 @@ seid_read p v d = once d.seid ie.fseid p (and_then (named ie.fseid p (read_fseid
 -- bit 1 of the flags' octet
 unfoldable pub flags_read : ℕ → List ℕ → Draft → Reading Draft
 flags_read p v d =
-    once d.restores ie.session_flags p (pick (ltb (length v) 1) (refusal_at tooShort ie.session_flags p) (done (with_restores (bit 0 (octet_at v 0)) d)))
+    once d.restores ie.session_flags p (pick (ltb (length v) 1) (refusal_at too_short ie.session_flags p) (done (with_restores (bit 0 (octet_at v 0)) d)))
 
 -- m = 1 in an establishment, 1 or the removal in a modification
 unfoldable pub csid_count_allowed : ℕ → Fqcsid → Bool

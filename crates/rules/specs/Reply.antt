@@ -9,7 +9,7 @@ use Rattle.rules.specs.Model.{Settings, peer_of, Tunnel}
 use Rattle.rules.specs.Elements.{Fteid, given, choose, fteid_octets, unit_fteid, UeIp, ue_given, ue_octets, ue_chooses, fseid_octets}
 use Rattle.rules.specs.Message.{establishment, set_deletion, first_with_seid, first_without_seid, counted_place, body_place, list_place, kind_of, seid_there, header_seid, sequence_of}
 use Rattle.rules.specs.Request.{NewPdr, NewEndpoint, Request}
-use Rattle.rules.specs.Grants.{Kind, ofPdr, ofEndpoint, Got}
+use Rattle.rules.specs.Grants.{Kind, of_pdr, of_endpoint, Got}
 use Rattle.rules.specs.Stages.{Verdict}
 use Rattle.rules.specs.Types as ie
 use Rattle.rules.specs.Causes as why
@@ -66,16 +66,16 @@ unfoldable pub pdr_report : (Kind → ℕ → Got) → NewPdr → Report
 pdr_report got p =
     record {
       id = p.id;
-      local = bind_option p.local (chosen_tunnel (got ofPdr p.id).teid);
-      address = bind_option p.address (chosen_ip (got ofPdr p.id).address);
+      local = bind_option p.local (chosen_tunnel (got of_pdr p.id).teid);
+      address = bind_option p.address (chosen_ip (got of_pdr p.id).address);
     }
 
 unfoldable pub endpoint_report : (Kind → ℕ → Got) → NewEndpoint → Report
 endpoint_report got e =
     record {
       id = e.id;
-      local = chosen_tunnel (got ofEndpoint e.id).teid e.local;
-      address = bind_option e.address (chosen_ip (got ofEndpoint e.id).address);
+      local = chosen_tunnel (got of_endpoint e.id).teid e.local;
+      address = bind_option e.address (chosen_ip (got of_endpoint e.id).address);
     }
 
 unfoldable pub something_chosen : Report → Bool

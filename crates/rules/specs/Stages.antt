@@ -7,7 +7,7 @@ use Rattle.octets.specs.Octets.{same_octets}
 use Rattle.octets.specs.Lists.{distinct, member, any_in, all_in, has_repeat, without, any, all_pairs, keep, find_by, collect}
 use Rattle.rules.specs.Model.{peer_of, other_peer, half, of_peer, holdings, unused, key_for, session_key, Settings, Pdr, Session, Sessions, Holding, teid_of, held_teids, in_address_pool, held_addresses, free_addresses, pdr_id, endpoint_id, pdr_endpoint}
 use Rattle.rules.specs.Limits.{max_pdrs, max_endpoints}
-use Rattle.rules.specs.Elements.{cause_of, Fteid, given, choose, has_v4, has_v6, chooses, choose_id_of, UeIp, ue_given, ueChoose, ueOther, ue_address_of, ue_chooses}
+use Rattle.rules.specs.Elements.{cause_of, Fteid, given, choose, has_v4, has_v6, chooses, choose_id_of, UeIp, ue_given, ue_choose, ue_other, ue_address_of, ue_chooses}
 use Rattle.rules.specs.Sound.{in_pool, unit_families, agree}
 use Rattle.rules.specs.Message.{establishment, set_deletion, kind_of, header_seid, Spot, frame_fault}
 use Rattle.rules.specs.Reading.{read_fault, read_request, Fault}
@@ -202,8 +202,8 @@ clash m r = any_in (map teid_of (restored_holdings r)) (held_teids m) || not (al
 -- an address of the pool outside restoration, or a CHOOSE inside it (02 (v))
 unfoldable pub wrong_address : Settings → Bool → UeIp → Bool
 wrong_address s restoring (ue_given a) = in_address_pool s a && not restoring
-wrong_address s restoring ueChoose = restoring
-wrong_address s restoring ueOther = false
+wrong_address s restoring ue_choose = restoring
+wrong_address s restoring ue_other = false
 
 -- the addresses of the pool that restored records take, held by another session
 unfoldable pub restored_addresses : Settings → Request → List ℕ

@@ -16,7 +16,7 @@ use Rattle.octets.specs.Fields.{field_octets}
 use Rattle.octets.proofs.Numbers.{bytes_be}
 use Rattle.octets.proofs.Digits.{be_back, octets_append, take_octets, drop_octets}
 use Rattle.rules.specs.Model.{Tunnel, Match, Pdr, Endpoint, Csid}
-use Rattle.rules.specs.Elements.{given, choose, ue_given, ueChoose, ueOther}
+use Rattle.rules.specs.Elements.{given, choose, ue_given, ue_choose, ue_other}
 use Rattle.rules.specs.Layout.{families, pdr_widths, endpoint_widths, match_kind, match_teid, match_families, match_endpoint, pdr_numbers, endpoint_numbers, csid_slot_widths, csid_slot_numbers, pdr_octets, endpoint_octets, csid_octets}
 use Rattle.rules.specs.Grants.{Kind, Got}
 use Rattle.rules.specs.Apply.{tunnel_from, named_match, match_from, address_got, address_from, made_pdr, made_endpoint}
@@ -106,7 +106,7 @@ address_numbers_lem row rest = go (eqb (word its.ue_kind row) 0) refl (eqb (word
 
     go : (none? : Bool) → eqb (word its.ue_kind row) 0 ≡ none? → (one : Bool) → eqb (word its.ue_kind row) 1 ≡ one → (two : Bool) → eqb (word its.ue_kind row) 2 ≡ two
         → let there : ℕ = pick one 1 (pick two 1 0) in
-        let o = address_from a (pick none? none (some (pick one (ue_given a) (pick two ueChoose ueOther)))) in
+        let o = address_from a (pick none? none (some (pick one (ue_given a) (pick two ue_choose ue_other)))) in
         there ∷ pick (eqb there 1) a 0 ∷ rest ≡ flag (is_some o) ∷ value_or 0 o ∷ rest
     go true e₀ true e₁ two e₂ = let z = eqb-true (word its.ue_kind row) 0 e₀ in let y = eqb-true (word its.ue_kind row) 1 e₁ in absurd (omega arith)
     go true e₀ false e₁ true e₂ = let z = eqb-true (word its.ue_kind row) 0 e₀ in let y = eqb-true (word its.ue_kind row) 2 e₂ in absurd (omega arith)

@@ -14,7 +14,7 @@ use Rattle.octets.specs.Octets.{octet_at, part}
 use Rattle.octets.specs.Lists.{member}
 use Rattle.octets.proofs.Put.{part_from}
 use Rattle.rules.specs.Types as ie
-use Rattle.rules.specs.Elements.{Refusal, incorrect, tooShort, cause_of, Answer, refuse, value, Fqcsid, sets, address_length, node_type_kept, operator_allowed, count_allowed, csids_read, csid_fields, checked_csid, csid_rest, read_fqcsid}
+use Rattle.rules.specs.Elements.{Refusal, incorrect, too_short, cause_of, Answer, refuse, value, Fqcsid, sets, address_length, node_type_kept, operator_allowed, count_allowed, csids_read, csid_fields, checked_csid, csid_rest, read_fqcsid}
 use Rattle.rules.specs.Message.{Element, set_deletion, acted_on, elements, list_place}
 use Rattle.rules.specs.Reading.{Reading, faulty, done, refusal_at, and_then, named, listable, listed_read, list_read}
 use Rattle.rules.specs.Causes as why
@@ -145,15 +145,15 @@ module _ (p : ℕ) (c : Fqcsid) where
 
   pub listed_octets : (v : List ℕ) → listed_read p v ≡ done c → (c ≡ listed_in v) × Sized v
   unfolding listed_read read_fqcsid csid_rest checked_csid listed_in octet_at
-  listed_octets [] h = refuses tooShort h
+  listed_octets [] h = refuses too_short h
   listed_octets (x ∷ xs) h = go (ltb 2 (x / 16)) (ltb (length xs) (address_length (x / 16) + 2 * (x % 16) + 1))
       (all_of (node_type_kept (octet_at xs (address_length (x / 16) + 2 * (x % 16)) % 16) ∷ operator_allowed (x / 16) (part 0 (address_length (x / 16)) xs) ∷ count_allowed (x % 16) (x / 16) (part 0 (address_length (x / 16)) xs) ∷ [])) refl h
     where
       go : (b d e : Bool) → ltb (length xs) (address_length (x / 16) + 2 * (x % 16) + 1) ≡ d
-          → checked (pick b (refuse incorrect) (pick d (refuse tooShort) (pick e (value (csid_fields (x % 16) (x / 16) (part 0 (address_length (x / 16)) xs) (csids_read (x % 16) (drop (address_length (x / 16)) xs)) (octet_at xs (address_length (x / 16) + 2 * (x % 16)) % 16))) (refuse incorrect)))) ≡ done c
+          → checked (pick b (refuse incorrect) (pick d (refuse too_short) (pick e (value (csid_fields (x % 16) (x / 16) (part 0 (address_length (x / 16)) xs) (csids_read (x % 16) (drop (address_length (x / 16)) xs)) (octet_at xs (address_length (x / 16) + 2 * (x % 16)) % 16))) (refuse incorrect)))) ≡ done c
           → (c ≡ listed_in (x ∷ xs)) × Sized (x ∷ xs)
       go true d e q g = refuses incorrect g
-      go false true e q g = refuses tooShort g
+      go false true e q g = refuses too_short g
       go false false false q g = refuses incorrect g
       go false false true q g =
           let l = ltb-false (length xs) (address_length (x / 16) + 2 * (x % 16) + 1) q in

@@ -19,9 +19,9 @@ use Rattle.stages.specs.RowRules.{breaks_id, breaks_fteid, breaks_address, break
 abbrev rest : List ℕ → List ℕ
 rest s = take (length s - row_width) (drop row_width s)
 
-module _ (held heldAddress : ℕ → Bool) (set' : Settings) (restoring : Bool) (pdrs endpoints gone : List ℕ) (rows : List (List ℕ)) where
+module _ (held held_address : ℕ → Bool) (set' : Settings) (restoring : Bool) (pdrs endpoints gone : List ℕ) (rows : List (List ℕ)) where
   abbrev p : List ℕ → Bool
-  p = breaks_row held heldAddress set' restoring pdrs endpoints gone rows
+  p = breaks_row held held_address set' restoring pdrs endpoints gone rows
 
   pub some_none : (s : List ℕ) (left : ℕ) → left ≤ 0 → some_row p (rows_of left s) ≡ false
   unfolding some_row
@@ -44,11 +44,11 @@ module _ (held heldAddress : ℕ → Bool) (set' : Settings) (restoring : Bool) 
       some_fteid b = first ∙ rw (a, b)
 
       module _ (b : breaks_fteid held set' (take row_width s) ≡ false) where
-        pub some_address_lem : breaks_address heldAddress set' restoring (take row_width s) ≡ true → some_row p (rows_of left s) ≡ true
+        pub some_address_lem : breaks_address held_address set' restoring (take row_width s) ≡ true → some_row p (rows_of left s) ≡ true
         unfolding breaks_row
         some_address_lem e = first ∙ rw (a, b, e)
 
-        module _ (e : breaks_address heldAddress set' restoring (take row_width s) ≡ false) where
+        module _ (e : breaks_address held_address set' restoring (take row_width s) ≡ false) where
           pub some_pair : any (disagree (take row_width s)) (rows_of (left - 1) (rest s)) ≡ true → some_row p (rows_of left s) ≡ true
           unfolding breaks_row
           some_pair d = first ∙ rw (a, b, e, d)

@@ -10,7 +10,7 @@ use Rattle.octets.specs.Choice.{one_of, is_some}
 use Rattle.octets.specs.Lists.{member, any, all_pairs, collect}
 use Rattle.octets.proofs.Tests.{and_left, and_right, of_true}
 use Rattle.rules.specs.Model.{Settings, Session, Sessions, Holding, teid_of, held_teids, in_address_pool, held_addresses}
-use Rattle.rules.specs.Elements.{UeIp, ue_given, ueChoose, ueOther, ue_address_of}
+use Rattle.rules.specs.Elements.{UeIp, ue_given, ue_choose, ue_other, ue_address_of}
 use Rattle.rules.specs.Request.{Request}
 use Rattle.rules.specs.Sound.{in_pool, agree, marked}
 use Rattle.rules.specs.Stages.{removed_pdrs, lacks_family, strange, restored_holdings, clash, addresses_of, wrong_address, restored_addresses, address_clash, request_rules, broken_rules, breaks_rule, live_pdrs, live_endpoints}
@@ -71,7 +71,7 @@ shuffle false false false false false false false false false false false false 
 abbrev gone : Session → List (List ℕ) → List ℕ
 gone x rows = removed_pdrs (request_of false rows) x.pdrs
 
-module _ (held heldAddress : ℕ → Bool) (s : Settings) (x : Session) (seid : ℕ) (restoring noted : Bool) (rows : List (List ℕ)) where
+module _ (held held_address : ℕ → Bool) (s : Settings) (x : Session) (seid : ℕ) (restoring noted : Bool) (rows : List (List ℕ)) where
   ids_rows : any (breaks_id (live_pdrs x) (live_endpoints x) (gone x rows) rows) rows
       ≡ one_of (any (creates_live (live_pdrs x) (live_endpoints x)) rows ∷ any (names_dead (live_pdrs x) (live_endpoints x)) rows ∷ any (updates_gone (gone x rows)) rows ∷ any pdi_names_both rows ∷ any (pdi_names_absent (live_endpoints x) rows) rows ∷ [])
   unfolding breaks_id
@@ -85,27 +85,27 @@ module _ (held heldAddress : ℕ → Bool) (s : Settings) (x : Session) (seid : 
   unfolding disagree
   pair_rows = sym (pair_ones (same_id ∷ other_choice ∷ other_hold ∷ []) rows)
 
-  address_rows : any (breaks_address heldAddress s restoring) rows ≡ (any (of_address (wrong_address s restoring)) rows || any (of_address (takes_address s heldAddress)) rows)
+  address_rows : any (breaks_address held_address s restoring) rows ≡ (any (of_address (wrong_address s restoring)) rows || any (of_address (takes_address s held_address)) rows)
   unfolding breaks_address
-  address_rows = sym (any_or (of_address (wrong_address s restoring)) (of_address (takes_address s heldAddress)) rows)
+  address_rows = sym (any_or (of_address (wrong_address s restoring)) (of_address (takes_address s held_address)) rows)
 
-  rows_is : some_row (breaks_row held heldAddress s restoring (live_pdrs x) (live_endpoints x) (gone x rows) rows) rows
-      ≡ (one_of (any (breaks_id (live_pdrs x) (live_endpoints x) (gone x rows) rows) rows ∷ any (breaks_fteid held s) rows ∷ any (breaks_address heldAddress s restoring) rows ∷ []) || any_pair disagree rows)
+  rows_is : some_row (breaks_row held held_address s restoring (live_pdrs x) (live_endpoints x) (gone x rows) rows) rows
+      ≡ (one_of (any (breaks_id (live_pdrs x) (live_endpoints x) (gone x rows) rows) rows ∷ any (breaks_fteid held s) rows ∷ any (breaks_address held_address s restoring) rows ∷ []) || any_pair disagree rows)
   unfolding breaks_row
   rows_is =
-      some_is (breaks_row held heldAddress s restoring (live_pdrs x) (live_endpoints x) (gone x rows) rows) rows
-      ∙ ap (λ (b : Bool). b || any_pair disagree rows) (sym (any_ones (breaks_id (live_pdrs x) (live_endpoints x) (gone x rows) rows ∷ breaks_fteid held s ∷ breaks_address heldAddress s restoring ∷ []) rows))
+      some_is (breaks_row held held_address s restoring (live_pdrs x) (live_endpoints x) (gone x rows) rows) rows
+      ∙ ap (λ (b : Bool). b || any_pair disagree rows) (sym (any_ones (breaks_id (live_pdrs x) (live_endpoints x) (gone x rows) rows ∷ breaks_fteid held s ∷ breaks_address held_address s restoring ∷ []) rows))
 
   wrong_rows : any (wrong_address s (request_in seid restoring noted rows).restoring) (addresses_of (request_in seid restoring noted rows)) ≡ any (of_address (wrong_address s restoring)) rows
   unfolding request_in
   wrong_rows = any_addresses (wrong_address s restoring) seid restoring noted rows
 
-  taken_rows : any heldAddress (restored_addresses s (request_in seid restoring noted rows)) ≡ any (of_address (takes_address s heldAddress)) rows
+  taken_rows : any held_address (restored_addresses s (request_in seid restoring noted rows)) ≡ any (of_address (takes_address s held_address)) rows
   unfolding restored_addresses takes_address
   taken_rows =
-      any_keep heldAddress (in_address_pool s) (collect ue_address_of (addresses_of (request_in seid restoring noted rows)))
-      ∙ any_collect (λ a. in_address_pool s a && heldAddress a) ue_address_of (addresses_of (request_in seid restoring noted rows))
-      ∙ any_addresses (λ v. on_some (λ a. in_address_pool s a && heldAddress a) (ue_address_of v)) seid restoring noted rows
+      any_keep held_address (in_address_pool s) (collect ue_address_of (addresses_of (request_in seid restoring noted rows)))
+      ∙ any_collect (λ a. in_address_pool s a && held_address a) ue_address_of (addresses_of (request_in seid restoring noted rows))
+      ∙ any_addresses (λ v. on_some (λ a. in_address_pool s a && held_address a) (ue_address_of v)) seid restoring noted rows
 
   clash_rows : clash_by held (request_in seid restoring noted rows) ≡ (any (λ row. restores held (row_holding row)) rows || any_pair other_hold rows)
   unfolding clash_by
@@ -115,14 +115,14 @@ module _ (held heldAddress : ℕ → Bool) (s : Settings) (x : Session) (seid : 
       (shared_rows seid restoring noted rows)
 
   -- cause 73 by the rows
-  pub breaks_rows_lem : breaks_rule_by held heldAddress s x (request_in seid restoring noted rows)
-      ≡ some_row (breaks_row held heldAddress s restoring (live_pdrs x) (live_endpoints x) (gone x rows) rows) rows
+  pub breaks_rows_lem : breaks_rule_by held held_address s x (request_in seid restoring noted rows)
+      ≡ some_row (breaks_row held held_address s restoring (live_pdrs x) (live_endpoints x) (gone x rows) rows) rows
   unfolding breaks_rule_by request_rules
   breaks_rows_lem =
       rw (twice_rows x seid restoring noted rows, created_rows x seid restoring noted rows, dead_rows x seid restoring noted rows, updates_rows x seid restoring noted rows, both_rows x seid restoring noted rows, absent_rows x seid restoring noted rows, choices_rows x seid restoring noted rows, any_fteids (lacks_family s) seid restoring noted rows, any_fteids (strange s) seid restoring noted rows, wrong_rows, taken_rows, clash_rows, rows_is, ids_rows, fteid_rows, address_rows, pair_rows)
       (shuffle (any_pair same_id rows) (any (creates_live (live_pdrs x) (live_endpoints x)) rows) (any (names_dead (live_pdrs x) (live_endpoints x)) rows) (any (updates_gone (gone x rows)) rows) (any pdi_names_both rows)
       (any (pdi_names_absent (live_endpoints x) rows) rows) (any_pair other_choice rows) (any (of_fteid (lacks_family s)) rows) (any (of_fteid (strange s)) rows)
-      (any (λ row. restores held (row_holding row)) rows) (any (of_address (wrong_address s restoring)) rows) (any (of_address (takes_address s heldAddress)) rows) (any_pair other_hold rows))
+      (any (λ row. restores held (row_holding row)) rows) (any (of_address (wrong_address s restoring)) rows) (any (of_address (takes_address s held_address)) rows) (any_pair other_hold rows))
 
 -- ---- the map in place of the records
 
@@ -169,8 +169,8 @@ module _ (held other : ℕ → Bool) (s : Settings) (alike : (a : ℕ) → in_ad
       one : (b : Bool) → in_address_pool s a ≡ b → (b && held a) ≡ (b && other a)
       one true e = alike a e
       one false e = refl
-  takes_same ueChoose = refl
-  takes_same ueOther = refl
+  takes_same ue_choose = refl
+  takes_same ue_other = refl
 
   on_some_same : (o : Option UeIp) → on_some (takes_address s held) o ≡ on_some (takes_address s other) o
   unfolding on_some
@@ -182,17 +182,17 @@ module _ (held other : ℕ → Bool) (s : Settings) (alike : (a : ℕ) → in_ad
   address_same restoring row = ap (λ (b : Bool). of_address (wrong_address s restoring) row || (creates row && b)) (on_some_same (row_ue row))
 
 -- Tests that agree with the records on the numbers of the pools give the rules.
-pub breaks_by : (held heldAddress : ℕ → Bool) (s : Settings) (m : Sessions) (x : Session) (seid : ℕ) (restoring noted : Bool) (rows : List (List ℕ))
+pub breaks_by : (held held_address : ℕ → Bool) (s : Settings) (m : Sessions) (x : Session) (seid : ℕ) (restoring noted : Bool) (rows : List (List ℕ))
     → ((t : ℕ) → in_pool s t ≡ true → held t ≡ member t (held_teids m))
-    → ((a : ℕ) → in_address_pool s a ≡ true → heldAddress a ≡ member a (held_addresses s m))
-    → breaks_rule_by held heldAddress s x (request_in seid restoring noted rows) ≡ breaks_rule s m x (request_in seid restoring noted rows)
+    → ((a : ℕ) → in_address_pool s a ≡ true → held_address a ≡ member a (held_addresses s m))
+    → breaks_rule_by held held_address s x (request_in seid restoring noted rows) ≡ breaks_rule s m x (request_in seid restoring noted rows)
 unfolding breaks_row
-breaks_by held heldAddress s m x seid restoring noted rows alike alikeAddress =
+breaks_by held held_address s m x seid restoring noted rows alike alike_address =
     let other : ℕ → Bool = λ t. member t (held_teids m) in
     let other_address : ℕ → Bool = λ a. member a (held_addresses s m) in
-    breaks_rows_lem held heldAddress s x seid restoring noted rows
-    ∙ some_ext (breaks_row held heldAddress s restoring (live_pdrs x) (live_endpoints x) (gone x rows) rows) (breaks_row other other_address s restoring (live_pdrs x) (live_endpoints x) (gone x rows) rows)
-    (λ row. ap₂ (λ (b c : Bool). one_of (breaks_id (live_pdrs x) (live_endpoints x) (gone x rows) rows row ∷ b ∷ c ∷ [])) (fteid_same held other s alike row) (address_same heldAddress other_address s alikeAddress restoring row))
+    breaks_rows_lem held held_address s x seid restoring noted rows
+    ∙ some_ext (breaks_row held held_address s restoring (live_pdrs x) (live_endpoints x) (gone x rows) rows) (breaks_row other other_address s restoring (live_pdrs x) (live_endpoints x) (gone x rows) rows)
+    (λ row. ap₂ (λ (b c : Bool). one_of (breaks_id (live_pdrs x) (live_endpoints x) (gone x rows) rows row ∷ b ∷ c ∷ [])) (fteid_same held other s alike row) (address_same held_address other_address s alike_address restoring row))
     rows
     ∙ sym (breaks_rows_lem other other_address s x seid restoring noted rows)
     ∙ sym (rule_by s m x (request_in seid restoring noted rows))
@@ -223,6 +223,6 @@ rule_found s' s words addresses pdrs endpoints away x restoring rows r e p q g a
     a ∙ (λ i. some_row (breaks_row (held_in (e i) words) (marked_address (e i) addresses) (e i) restoring (p i) (q i) (g i) rows) rows) ∙ sym (breaks_rows_lem (held_in s words) (marked_address s addresses) s x 0 restoring false rows)
 
 -- the request's SEID and element 129 do not matter
-pub rule_rows : (held heldAddress : ℕ → Bool) (s : Settings) (x : Session) (seid : ℕ) (restoring noted : Bool) (rows : List (List ℕ))
-    → breaks_rule_by held heldAddress s x (request_in 0 restoring false rows) ≡ breaks_rule_by held heldAddress s x (request_in seid restoring noted rows)
-rule_rows held heldAddress s x seid restoring noted rows = breaks_rows_lem held heldAddress s x 0 restoring false rows ∙ sym (breaks_rows_lem held heldAddress s x seid restoring noted rows)
+pub rule_rows : (held held_address : ℕ → Bool) (s : Settings) (x : Session) (seid : ℕ) (restoring noted : Bool) (rows : List (List ℕ))
+    → breaks_rule_by held held_address s x (request_in 0 restoring false rows) ≡ breaks_rule_by held held_address s x (request_in seid restoring noted rows)
+rule_rows held held_address s x seid restoring noted rows = breaks_rows_lem held held_address s x 0 restoring false rows ∙ sym (breaks_rows_lem held held_address s x seid restoring noted rows)

@@ -88,7 +88,7 @@ pub at_entry : {k : Known} {q : Told} {t taken addresses slot gone plan : List �
     → k.addresses ≡ free_address_count (view_settings t) (view_sessions t)
     → (k.kind ≡ establishment → q.live ≡ is_live (key_for k.share.peer q.seid) (view_sessions t))
     → AtEntry k q t taken addresses slot gone plan
-at_entry {k} {q} {t} {taken} {addresses} {slot} {gone} {plan} same h place rows removed words means count wordsA meansA count_a known =
+at_entry {k} {q} {t} {taken} {addresses} {slot} {gone} {plan} same h place rows removed words means count words_address means_address count_a known =
     let settings = (table_kept t h).settings in
     record {
       place = place;
@@ -97,8 +97,8 @@ at_entry {k} {q} {t} {taken} {addresses} {slot} {gone} {plan} same h place rows 
       wide = subst (λ (x : Settings). x.size ≤ 64 * length taken) (sym same) (pool_wide (view_settings t) taken settings words);
       marks = λ i below. subst (λ (x : Settings). marked taken i ≡ member (x.first + i) (held_teids (view_sessions t))) (sym same) (means i);
       share = subst (λ (x : Settings). ShareOf x (view_sessions t) k.share.peer k.share.teids k.share.sessions) (sym same) count;
-      wide_addresses = subst (λ (x : Settings). x.address_count ≤ 64 * length addresses) (sym same) (omega (arith, wordsA, addresses_fit (view_settings t) settings));
-      marks_addresses = λ i below. subst (λ (x : Settings). marked addresses i ≡ member (x.first_address + i) (held_addresses x (view_sessions t))) (sym same) (meansA i);
+      wide_addresses = subst (λ (x : Settings). x.address_count ≤ 64 * length addresses) (sym same) (omega (arith, words_address, addresses_fit (view_settings t) settings));
+      marks_addresses = λ i below. subst (λ (x : Settings). marked addresses i ≡ member (x.first_address + i) (held_addresses x (view_sessions t))) (sym same) (means_address i);
       count_addresses = count_a ∙ ap (λ (x : Settings). free_address_count x (view_sessions t)) (sym same);
       known = known;
     }

@@ -9,7 +9,7 @@ use Rattle.rules.specs.Sound.{sound, taken_map, address_map, Count, broken, free
 use Rattle.marking.specs.declared.Walked.{Walked}
 use Rattle.marking.specs.declared.Walked.TheVariants as marked
 use Rattle.marking.specs.declared.Walked.TheVariants.{Held}
-use Rattle.table.specs.declared.Count as codeCount
+use Rattle.table.specs.declared.Count as code_count
 use Rattle.table.specs.declared.Making.{Making}
 use Rattle.table.specs.declared.Making.TheVariants as making
 use Rattle.table.specs.declared.Count.TheVariants.{Broken, Free}
@@ -25,7 +25,7 @@ pub record Examined (t : List ℕ) (r : Walked) (words' addresses' : List ℕ) :
   pub addresses : (p q f k : ℕ) → r ≡ Held p q f k → addresses' ≡ address_map (view_settings t) (view_sessions t)
 
 -- the free count, or outcome 1
-abbrev pub count_told : codeCount.Count → Count
+abbrev pub count_told : code_count.Count → Count
 count_told Broken = broken
 count_told (Free n) = free n
 

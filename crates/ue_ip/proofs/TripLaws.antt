@@ -14,7 +14,7 @@ use Rattle.octets.specs.Octets.{be, bit, number, number_at, part, octet_at, octe
 use Rattle.octets.proofs.Tests.{is_true, and_left}
 use Rattle.octets.proofs.Numbers.{length_be, number_be}
 use Rattle.octets.proofs.Digits.{be_part, drop_octets}
-use Rattle.rules.specs.Elements.{UeIp, ue_given, ueChoose, ueOther, ue_v4, ue_chv4, ue_unsupported, ue_fields, read_ue_ip, ue_allowed, ue_strange, ue_octets, write_ue_ip, refuse, value, tooShort, incorrect}
+use Rattle.rules.specs.Elements.{UeIp, ue_given, ue_choose, ue_other, ue_v4, ue_chv4, ue_unsupported, ue_fields, read_ue_ip, ue_allowed, ue_strange, ue_octets, write_ue_ip, refuse, value, too_short, incorrect}
 use Rattle.element.proofs.OctetLaws.{no_octets, part_below}
 use Rattle.element.proofs.FlagLaws.{eight_bits}
 use Rattle.element.proofs.AnswerLaws.{some_same}
@@ -37,8 +37,8 @@ pub ue_read_written : (v : UeIp) (rest : List ℕ) → T (ue_allowed v) → read
 unfolding ue_allowed ue_octets
 ue_read_written (ue_given a) rest h =
     given_read (be 4 a) rest (length_be 4 a) ∙ ap (λ (n : ℕ). value (ue_given n)) (number_be 4 a (ltb-true a (2 ^ 32) (is_true (ltb a (2 ^ 32)) h)))
-ue_read_written ueChoose rest h = unfold read_ue_ip ue_unsupported ue_fields bit in refl
-ue_read_written ueOther rest h = absurd h
+ue_read_written ue_choose rest h = unfold read_ue_ip ue_unsupported ue_fields bit in refl
+ue_read_written ue_other rest h = absurd h
 
 -- the octets of an address or a CHOOSE that was read are those it was read from, without what was ignored
 pub ue_canonical : UeIpCanonical
@@ -48,12 +48,12 @@ ue_canonical (f ∷ xs) v o h k =
     by (ue_unsupported f) (same_bool (ue_v4 f) (ue_chv4 f)) (ue_chv4 f) (ltb (length xs) 4) (λ q. ltb-false (length xs) 4 q) h
   where
     by : (u w c l : Bool) → (l ≡ false → 4 ≤ length xs)
-        → pick u (value ueOther) (pick w (refuse incorrect) (pick c (value ueChoose) (pick l (refuse tooShort) (value (ue_given (number (part 0 4 xs))))))) ≡ value v
+        → pick u (value ue_other) (pick w (refuse incorrect) (pick c (value ue_choose) (pick l (refuse too_short) (value (ue_given (number (part 0 4 xs))))))) ≡ value v
         → (ue_octets v ≡ pick c (16 ∷ []) (2 ∷ take 4 xs)) × T (ue_allowed v)
     by true w c l q e = let z : true ≡ false = ap ue_strange (value_same e) ∙ k in absurd (false≢true (sym z))
     by false true c l q e = refused_is_not e
     by false false true l q e =
-        let z : ueChoose ≡ v = value_same e in (ap ue_octets (sym z), subst (λ (x : UeIp). T (ue_allowed x)) z tt)
+        let z : ue_choose ≡ v = value_same e in (ap ue_octets (sym z), subst (λ (x : UeIp). T (ue_allowed x)) z tt)
     by false false false true q e = refused_is_not e
     by false false false false q e =
         let z : ue_given (number (part 0 4 xs)) ≡ v = value_same e in
@@ -108,7 +108,7 @@ served (f ∷ xs) v h p =
     let r : pick (same_bool (ue_v4 f) (ue_chv4 f)) (refuse incorrect) (ue_fields f xs) ≡ value v = rw p.served at h in
     by (ue_chv4 f) (ltb (length xs) 4) (not_refused (same_bool (ue_v4 f) (ue_chv4 f)) incorrect (ue_fields f xs) v r).1
   where
-    by : (c l : Bool) → pick c (value ueChoose) (pick l (refuse tooShort) (value (ue_given (number (part 0 4 xs))))) ≡ value v → ue_strange v ≡ false
+    by : (c l : Bool) → pick c (value ue_choose) (pick l (refuse too_short) (value (ue_given (number (part 0 4 xs))))) ≡ value v → ue_strange v ≡ false
     by true l e = ap ue_strange (sym (value_same e))
     by false true e = refused_is_not e
     by false false e = ap ue_strange (sym (value_same e))
@@ -127,8 +127,8 @@ ue_inverse = record {
 -- the code's case of a value
 abbrev case_of : UeIp → ue.UeIp
 case_of (ue_given a) = ue-case.Given a
-case_of ueChoose = ue-case.Choose
-case_of ueOther = ue-case.Other
+case_of ue_choose = ue-case.Choose
+case_of ue_other = ue-case.Other
 
 case_of_lem : (v : ue.UeIp) → case_of (ue_of v) ≡ v
 case_of_lem (ue-case.Given a) = refl

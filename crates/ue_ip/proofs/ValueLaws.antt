@@ -12,7 +12,7 @@ use Rattle.octets.specs.Choice.{flag, same_bool}
 use Rattle.octets.specs.Octets.{put, be, bit, number, number_at, part}
 use Rattle.octets.proofs.Put.{next_put}
 use Rattle.octets.proofs.Numbers.{length_be}
-use Rattle.rules.specs.Elements.{ue_given, ueChoose, ueOther, ue_unsupported, ue_fields, read_ue_ip, ue_allowed, ue_octets, write_ue_ip, write_if, refuse, value, tooShort, incorrect}
+use Rattle.rules.specs.Elements.{ue_given, ue_choose, ue_other, ue_unsupported, ue_fields, read_ue_ip, ue_allowed, ue_octets, write_ue_ip, write_if, refuse, value, too_short, incorrect}
 use Rattle.element.proofs.OctetLaws.{part_after}
 use Rattle.element.proofs.FlagLaws.{bit_number, bit_first, bit_set, bit_clear}
 
@@ -58,12 +58,12 @@ other_flags false false h = absurd (h refl)
 
 -- ---- the reader
 
-pub read_empty : (s : List ℕ) → length s ≡ 0 → read_ue_ip s ≡ refuse tooShort
+pub read_empty : (s : List ℕ) → length s ≡ 0 → read_ue_ip s ≡ refuse too_short
 unfolding read_ue_ip
 read_empty [] h = refl
 read_empty (x ∷ s) h = absurd (omega arith)
 
-pub read_other : (s : List ℕ) → 0 < length s → ue_unsupported (get_or s 0 0) ≡ true → read_ue_ip s ≡ value ueOther
+pub read_other : (s : List ℕ) → 0 < length s → ue_unsupported (get_or s 0 0) ≡ true → read_ue_ip s ≡ value ue_other
 unfolding read_ue_ip
 read_other [] h u = absurd (not-suc-le-zero h)
 read_other (f ∷ s) h u = rw u
@@ -81,11 +81,11 @@ read_fields_lem [] h u one = absurd (not-suc-le-zero h)
 read_fields_lem (f ∷ s) h u one = rw (u, other_flags (bit 1 f) (bit 4 f) (λ q. one (sym (bit_number 1 f) ∙ q ∙ bit_number 4 f)))
 
 module _ (s : List ℕ) (h : 0 < length s) (u : ue_unsupported (get_or s 0 0) ≡ false) (one : get_or s 0 0 / 2 % 2 ≡ get_or s 0 0 / 16 % 2 → ⊥) where
-  pub read_choose : get_or s 0 0 / 16 % 2 ≡ 1 → read_ue_ip s ≡ value ueChoose
+  pub read_choose : get_or s 0 0 / 16 % 2 ≡ 1 → read_ue_ip s ≡ value ue_choose
   unfolding ue_fields
   read_choose c = read_fields_lem s h u one ∙ rw (bit_set 4 (get_or s 0 0) c)
 
-  pub read_short : (get_or s 0 0 / 16 % 2 ≡ 1 → ⊥) → length s < 5 → read_ue_ip s ≡ refuse tooShort
+  pub read_short : (get_or s 0 0 / 16 % 2 ≡ 1 → ⊥) → length s < 5 → read_ue_ip s ≡ refuse too_short
   unfolding ue_fields
   read_short c l =
       let n = length-drop 1 s in
@@ -129,14 +129,14 @@ module _ (a : ℕ) (s : List ℕ) where
         let c : e ≡ 5 = w.0 in
         rw (narrow, length_given a, le-leb 5 (length s) l, c, w.1)
 
-pub write_empty : (s : List ℕ) → length s < 1 → record { count = none; space = s } ≡ write_ue_ip ueChoose s
+pub write_empty : (s : List ℕ) → length s < 1 → record { count = none; space = s } ≡ write_ue_ip ue_choose s
 unfolding write_ue_ip write_if ue_allowed ue_octets
 write_empty s l = rw (lt-leb 1 (length s) l)
 
-pub write_chosen : (s t : List ℕ) → 1 ≤ length s → t ≡ put 0 (be 1 16) s → record { count = some 1; space = t } ≡ write_ue_ip ueChoose s
+pub write_chosen : (s t : List ℕ) → 1 ≤ length s → t ≡ put 0 (be 1 16) s → record { count = some 1; space = t } ≡ write_ue_ip ue_choose s
 unfolding write_ue_ip write_if ue_allowed ue_octets be
 write_chosen s t l e = rw (le-leb 1 (length s) l, e)
 
-pub write_other : (s : List ℕ) → record { count = none; space = s } ≡ write_ue_ip ueOther s
+pub write_other : (s : List ℕ) → record { count = none; space = s } ≡ write_ue_ip ue_other s
 unfolding write_ue_ip write_if ue_allowed
 write_other s = refl

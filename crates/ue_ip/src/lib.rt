@@ -3,7 +3,7 @@
 
 ghost use Rattle.std.specs.Prelude.{◌≡◌, ◌+◌, ◌≤◌, length};
 ghost use Rattle.octets.specs.Octets.{put};
-ghost use Rattle.rules.specs.Elements.{ue_octets, ue_given, ueChoose, ue_unsupported, read_ue_ip, write_ue_ip};
+ghost use Rattle.rules.specs.Elements.{ue_octets, ue_given, ue_choose, ue_unsupported, read_ue_ip, write_ue_ip};
 ghost use Rattle.element.specs.Answers.{left};
 ghost use Rattle.ue_ip.specs.Meaning.{ue_of, ue_answer, ue_cause};
 
@@ -84,7 +84,7 @@ fn write_given(address: u64, out: &mut [u8]) -> Written
 
 // Writes CHV4 alone, or refuses an empty space.
 fn write_choose(out: &mut [u8]) -> Written
-    ensures { left result out.new ≡ write_ue_ip ueChoose out.old }
+    ensures { left result out.new ≡ write_ue_ip ue_choose out.old }
 {
     if out.len() < 1 {
         return Written::Refused;
