@@ -1,4 +1,5 @@
 -- An address written into every row of a plan that chooses one, row after row. Assumes nothing.
+use Rattle.std.specs.Prelude.{Some, None}
 use mathlib.Core.Path.{◌≡◌, refl, sym, ap, ap₂, ◌∙◌}
 use mathlib.Core.Bool.{Bool, true, false}
 use mathlib.Core.List.{List, ◌∷◌, ◌++◌, map, append_assoc}
@@ -10,7 +11,6 @@ use Rattle.octets.specs.Choice.{pick}
 use Rattle.octets.specs.Octets.{slices}
 use Rattle.plan.specs.Rows.{row_width, rows_of}
 use Rattle.grants.specs.Choosing.{chooses_address, row_with_address, addressed, lowest_address}
-use Rattle.pool.specs.declared.Lowest.TheVariants.{At, Full}
 use Rattle.pool.specs.Answer.{lowest}
 use Rattle.pool.specs.Map.{free_from}
 use Rattle.pool.proofs.TakenLaws.{next_teid, no_teid}
@@ -145,8 +145,8 @@ module _ (a : ℕ) where
 -- ---- the lowest free address
 
 module _ (first : ℕ) (words : List ℕ) (size n : ℕ) (plan : List ℕ) {plan' : List ℕ} where
-  pub address_none : Full ≡ lowest (free_from words 0 size) → plan' ≡ addressed 0 n plan → plan' ≡ addressed (lowest_address first words size) n plan
+  pub address_none : None ≡ lowest (free_from words 0 size) → plan' ≡ addressed 0 n plan → plan' ≡ addressed (lowest_address first words size) n plan
   address_none f e = rw (no_teid first words 0 size f) e
 
-  pub address_next : (i : ℕ) → At i ≡ lowest (free_from words 0 size) → plan' ≡ addressed (first + i) n plan → plan' ≡ addressed (lowest_address first words size) n plan
+  pub address_next : (i : ℕ) → Some i ≡ lowest (free_from words 0 size) → plan' ≡ addressed (first + i) n plan → plan' ≡ addressed (lowest_address first words size) n plan
   address_next i f e = rw (next_teid first words 0 size i f).head e

@@ -1,4 +1,5 @@
 -- One row of a plan and one TEID given, as the code tests and finds them. Assumes nothing.
+use Rattle.std.specs.Prelude.{Some, None}
 use mathlib.Core.Path.{◌≡◌, refl, sym, ◌∙◌}
 use mathlib.Core.Bool.{Bool, true, false, not, ◌||◌, and-true, and-false}
 use mathlib.Core.List.{List}
@@ -11,7 +12,6 @@ use Rattle.octets.specs.Octets.{bit}
 use Rattle.octets.specs.Rows.{has_tag}
 use Rattle.rules.specs.Grants.{teid_for, free_after}
 use Rattle.rules.specs.Types as ie
-use Rattle.pool.specs.declared.Lowest.TheVariants.{At, Full}
 use Rattle.pool.specs.Answer.{lowest}
 use Rattle.pool.specs.Map.{free_from}
 use Rattle.pool.proofs.TakenLaws.{next_teid, no_teid}
@@ -82,7 +82,7 @@ module _ (first : ℕ) (words : List ℕ) (from size : ℕ) (known : List ℕ) (
     unknown = eq-eqb (get_or known i 0) 0 (sym e ∙ z)
 
     -- none is free
-    pub gives_none : (known' : List ℕ) → Full ≡ lowest (free_from words from size) → known' ≡ set known i 1
+    pub gives_none : (known' : List ℕ) → None ≡ lowest (free_from words from size) → known' ≡ set known i 1
         → Gives first words from size known i (record { teid = 0; next = from }) known'
     unfolding teid_for free_after
     gives_none known' f g =
@@ -90,7 +90,7 @@ module _ (first : ℕ) (words : List ℕ) (from size : ℕ) (known : List ℕ) (
         record { teid = rw (unknown, n); free = rw (unknown, n); knows = rw unknown g }
 
     -- the next free one
-    pub gives_next : (known' : List ℕ) (k : ℕ) → At k ≡ lowest (free_from words from size) → known' ≡ set known i (first + k + 1)
+    pub gives_next : (known' : List ℕ) (k : ℕ) → Some k ≡ lowest (free_from words from size) → known' ≡ set known i (first + k + 1)
         → Gives first words from size known i (record { teid = first + k; next = k + 1 }) known'
     unfolding teid_for free_after
     gives_next known' k f g =

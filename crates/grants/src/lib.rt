@@ -126,7 +126,7 @@ fn teid_for(
         };
     }
     let found = pool::next_free(words, from, size);
-    let pool::Lowest::At(i) = found else {
+    let Some(i) = found else {
         set_word(known, id, 1);
         return Given {
             teid: 0,
@@ -237,7 +237,7 @@ pub fn grant_address(plan: &mut [u64], n: usize, words: &[u64], u: Settings)
     ensures { plan.new ≡ addressed (lowest_address u.first_address words.now u.addresses) n plan.old }
 {
     let found = pool::next_free(words, 0, u.addresses as usize);
-    let pool::Lowest::At(i) = found else {
+    let Some(i) = found else {
         store_address(plan, n, 0);
         return;
     };

@@ -1,4 +1,5 @@
 -- The free offsets, one after the other. Assumes nothing.
+use Rattle.std.specs.Prelude.{Some, None}
 use mathlib.Core.Path.{◌≡◌, refl, sym, ◌∙◌, ap}
 use mathlib.Core.Bool.{Bool, true, false, not}
 use mathlib.Core.List.{List, [], ◌∷◌}
@@ -8,7 +9,6 @@ use native.Mathlib.Decide.{dec_lt}
 use native.Mathlib.Omega.{arith}
 use Rattle.octets.specs.Choice.{pick}
 use Rattle.octets.specs.Lists.{keep, range}
-use Rattle.pool.specs.declared.Lowest.TheVariants.{At, Full}
 use Rattle.pool.specs.Answer.{lowest}
 use Rattle.pool.specs.Map.{free_from}
 use Rattle.rules.specs.Sound.{marked}
@@ -43,7 +43,7 @@ free_run ws (suc m) i size h =
     go (no n) ih = free_end ws i size (omega (arith, n)) ∙ sym (free_end ws (i + suc m) size (omega (arith, n)))
 
 -- what the answer of a search says of the free offsets
-pub lowest_full : (xs : List ℕ) → Full ≡ lowest xs → xs ≡ []
+pub lowest_full : (xs : List ℕ) → None ≡ lowest xs → xs ≡ []
 lowest_full [] e = refl
 lowest_full (x ∷ xs) e = let z : ◌≡◌ {A = ℕ} 0 1 = cc in absurd (omega arith)
 
@@ -52,11 +52,11 @@ pub record Found (ws : List ℕ) (at size i : ℕ) : Type 0 where
   pub below : i < size
   pub is : free_from ws at size ≡ i ∷ free_from ws (i + 1) size
 
-lowest_in : (ws : List ℕ) (n at size i : ℕ) → size - at ≡ n → At i ≡ lowest (free_from ws at size) → Found ws at size i
+lowest_in : (ws : List ℕ) (n at size i : ℕ) → size - at ≡ n → Some i ≡ lowest (free_from ws at size) → Found ws at size i
 lowest_in ws zero at size i l e = let z : ◌≡◌ {A = ℕ} 0 1 = cc (free_end ws at size (omega arith)) in absurd (omega arith)
 lowest_in ws (suc n) at size i l e = go (marked ws at) refl (lowest_in ws n (at + 1) size i (omega arith))
   where
-    go : (b : Bool) → marked ws at ≡ b → (At i ≡ lowest (free_from ws (at + 1) size) → Found ws (at + 1) size i) → Found ws at size i
+    go : (b : Bool) → marked ws at ≡ b → (Some i ≡ lowest (free_from ws (at + 1) size) → Found ws (at + 1) size i) → Found ws at size i
     go true t ih =
         let s = free_skip ws at size (omega arith) t in
         let f = ih (rw s at e) in
@@ -66,5 +66,5 @@ lowest_in ws (suc n) at size i l e = go (marked ws at) refl (lowest_in ws n (at 
         let same : i ≡ at = cc s in
         record { from = omega arith; below = omega arith; is = rw same s }
 
-pub lowest_at : (ws : List ℕ) (at size i : ℕ) → At i ≡ lowest (free_from ws at size) → Found ws at size i
+pub lowest_at : (ws : List ℕ) (at size i : ℕ) → Some i ≡ lowest (free_from ws at size) → Found ws at size i
 lowest_at ws at size i e = lowest_in ws (size - at) at size i refl e

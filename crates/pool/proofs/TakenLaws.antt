@@ -1,6 +1,7 @@
 -- What the map means: its bits are the TEIDs that records hold, and it is 01's map; the TEIDs at its free offsets are the free TEIDs,
 -- the lowest first, and as many as 01's free count says; counting new marks counts the different TEIDs held.
 -- Assumes nothing.
+use Rattle.std.specs.Prelude.{Some, None}
 use mathlib.Core.Path.{◌≡◌, refl, sym, ◌∙◌, ap}
 use mathlib.Core.Bool.{Bool, true, false, not}
 use mathlib.Core.List.{List, [], ◌∷◌, ◌++◌, map, append-nil}
@@ -19,7 +20,6 @@ use Rattle.rules.specs.Limits.{map_words}
 use Rattle.rules.specs.Model.{Settings, Sessions, held_teids, free_teids}
 use Rattle.rules.specs.Sound.{settings_allowed, in_pool, taken, taken_bits, taken_words, taken_map, marked}
 use Rattle.laws.proofs.KeptSettings.{settings_kept}
-use Rattle.pool.specs.declared.Lowest.TheVariants.{At, Full}
 use Rattle.pool.specs.Answer.{lowest}
 use Rattle.pool.specs.Map.{mark, marks, new_marks, free_from, offsets, teids_from}
 use Rattle.pool.proofs.Bits.{bit_low, bit_suc}
@@ -201,13 +201,13 @@ pub record Next (first : ℕ) (ws : List ℕ) (at size i : ℕ) : Type 0 where
   pub head : head_or 0 (teids_from first ws at size) ≡ first + i
   pub after : rest (teids_from first ws at size) ≡ teids_from first ws (i + 1) size
 
-pub next_teid : (first : ℕ) (ws : List ℕ) (at size i : ℕ) → At i ≡ lowest (free_from ws at size) → Next first ws at size i
+pub next_teid : (first : ℕ) (ws : List ℕ) (at size i : ℕ) → Some i ≡ lowest (free_from ws at size) → Next first ws at size i
 unfolding teids_from
 next_teid first ws at size i e =
     let f = lowest_at ws at size i e in
     record { from = f.from; below = f.below; head = rw f.is; after = rw f.is }
 
 -- or there is none
-pub no_teid : (first : ℕ) (ws : List ℕ) (at size : ℕ) → Full ≡ lowest (free_from ws at size) → teids_from first ws at size ≡ []
+pub no_teid : (first : ℕ) (ws : List ℕ) (at size : ℕ) → None ≡ lowest (free_from ws at size) → teids_from first ws at size ≡ []
 unfolding teids_from
 no_teid first ws at size e = rw (lowest_full (free_from ws at size) e)

@@ -18,13 +18,6 @@ pub struct Taken {
     pub words: [u64; WORDS],
 }
 
-// The lowest free offset, if there is one.
-#[derive(Clone, Copy)]
-pub enum Lowest {
-    At(usize),
-    Full,
-}
-
 // Is offset i marked?
 pub fn is_marked(words: &[u64], i: usize) -> bool
     requires { i < 64 * length words.now }
@@ -49,12 +42,12 @@ pub fn mark(words: &mut [u64], i: usize) -> bool
 
 // The lowest free offset that is at least `at` and below size. A word's complement, shifted by b, has a bit for each free offset of the
 // word from bit b on: its trailing zeros lead to the first, and a word that has none is passed over.
-pub fn next_free(words: &[u64], at: usize, size: usize) -> Lowest
+pub fn next_free(words: &[u64], at: usize, size: usize) -> Option<usize>
     requires { size ≤ 64 * length words.now }
     ensures { result ≡ lowest (free_from words.now at size) }
 {
     if size <= at {
-        return Lowest::Full;
+        return None;
     }
     let last = (size - 1) / 64;
     let mut k = at / 64;
@@ -64,12 +57,12 @@ pub fn next_free(words: &[u64], at: usize, size: usize) -> Lowest
         if open != 0 {
             let i = 64 * k + b + u64::trailing_zeros(open) as usize;
             if i < size {
-                return Lowest::At(i);
+                return Some(i);
             }
-            return Lowest::Full;
+            return None;
         }
         k += 1;
         b = 0;
     }
-    Lowest::Full
+    None
 }

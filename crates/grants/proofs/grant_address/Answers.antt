@@ -15,8 +15,8 @@ returns-in_default c =
 
 pub overflow_add-u : goal.overflow_add-u
 overflow_add-u c =
-    let below : c.in-At.i < c.args.u.addresses = let a = c.args in
-    (lowest_at a.words.now 0 a.u.addresses _ (sym c.in-At.is ∙ c.next_free-found.ensures)).below in
+    let below : c.in-Some.i < c.args.u.addresses = let a = c.args in
+    (lowest_at a.words.now 0 a.u.addresses _ (sym c.in-Some.is ∙ c.next_free-found.ensures)).below in
     omega (arith, below)
 
 pub returns : goal.returns
@@ -25,4 +25,4 @@ returns c =
     let k = c in
     let f = c in
     let a = c.args in
-    address_next a.u.first_address a.words.now a.u.addresses a.n a.plan.now _ (sym c.in-At.is ∙ c.next_free-found.ensures) c.store_address-2.ensures
+    address_next a.u.first_address a.words.now a.u.addresses a.n a.plan.now _ (sym c.in-Some.is ∙ c.next_free-found.ensures) c.store_address-2.ensures

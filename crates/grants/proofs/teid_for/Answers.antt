@@ -20,17 +20,17 @@ returns-in_default c =
 
 pub overflow_add-teid : goal.overflow_add-teid
 overflow_add-teid c =
-    let below : c.in-At.i < c.args.size = let s = c.args in (lowest_at s.words.now s.from s.size _ (sym c.in-At.is ∙ c.next_free-found.ensures)).below in
+    let below : c.in-Some.i < c.args.size = let s = c.args in (lowest_at s.words.now s.from s.size _ (sym c.in-Some.is ∙ c.next_free-found.ensures)).below in
     omega (arith, below)
 
 pub overflow_add-teid-2 : goal.overflow_add-teid-2
 overflow_add-teid-2 c =
-    let below : c.in-At.i < c.args.size = let s = c.args in (lowest_at s.words.now s.from s.size _ (sym c.in-At.is ∙ c.next_free-found.ensures)).below in
+    let below : c.in-Some.i < c.args.size = let s = c.args in (lowest_at s.words.now s.from s.size _ (sym c.in-Some.is ∙ c.next_free-found.ensures)).below in
     omega (arith, below)
 
 pub overflow_add-result : goal.overflow_add-result
 overflow_add-result c =
-    let below : c.in-At.i < c.args.size = let s = c.args in (lowest_at s.words.now s.from s.size _ (sym c.in-At.is ∙ c.next_free-found.ensures)).below in
+    let below : c.in-Some.i < c.args.size = let s = c.args in (lowest_at s.words.now s.from s.size _ (sym c.in-Some.is ∙ c.next_free-found.ensures)).below in
     omega (arith, below)
 
 pub returns : goal.returns
@@ -38,4 +38,4 @@ returns c =
     let s = c.args in
     let w = c.word_at-has in
     gives_next s.first s.words.now s.from s.size s.known.now s.id w.result w.ensures c.if-has-ne0.false _ _
-    (sym c.in-At.is ∙ c.next_free-found.ensures) c.set_word-2.ensures
+    (sym c.in-Some.is ∙ c.next_free-found.ensures) c.set_word-2.ensures
