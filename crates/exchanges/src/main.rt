@@ -120,8 +120,8 @@ fn remake(
         println!(rt)?;
         return Ok(n);
     }
-    store::clear(one);
-    store::clear(two);
+    let _ = store::clear(one);
+    let _ = store::clear(two);
     outcome(rt, &t[0..end], "table ", 0)?;
     println!(rt)?;
     Ok(end)

@@ -156,7 +156,7 @@ pub extern "C" fn pfcp_store_length() -> usize
 pub extern "C" fn pfcp_make_store(store: &mut [u8]) -> u32
     ensures { record { outcome = result; store = store.new } ≡ store_call store.old }
 {
-    if !store::clear(store) {
+    if store::clear(store).is_err() {
         return REFUSED;
     }
     MADE

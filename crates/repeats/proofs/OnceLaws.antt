@@ -19,13 +19,10 @@ use Rattle.rules.specs.Serve.{Served, unserved, serve}
 use Rattle.engine.specs.Steps.{Serves}
 use Rattle.rules.specs.Store.{entry, store_octets, store_entries, store_sound, stored_reply, remember, request_allowed, max_reply}
 use Rattle.rules.specs.Repeats.{takes, Once, unanswered, again, engine_reply, by_store, request_once}
-use Rattle.store.specs.Fronts.{found_in, Within}
-use Rattle.store.specs.Answers.{Recalls, Keepable}
-use Rattle.store.specs.declared.Found.{Found}
-use Rattle.store.specs.declared.Found.TheVariants as found
+use Rattle.store.specs.Answers.{Keepable}
 use Rattle.store.proofs.EntryLaws.{is_allowed_lem}
 use Rattle.store.proofs.HeldLaws.{stored_short}
-use Rattle.repeats.specs.Steps.{resting_outcome, Resting, silent, repeated, dropped, renewed, Sendable}
+use Rattle.repeats.specs.Steps.{resting_outcome, Resting, silent, repeated, dropped, renewed}
 use Rattle.repeats.proofs.ServedLaws.{resting_is, other_outcome, nothing_written, Replied, replied}
 
 -- a call that leaves table and store
@@ -147,31 +144,23 @@ module _ (t : List ℕ) (who : ℕ) (hw : T (is_peer who)) (store msg space : Li
         rests : (serve t who msg space).outcome ≡ resting_outcome t space
         rests = resting_is t who msg space hw is_request_lem
 
-        pub sendable : (r : Found) (from to : ℕ) → Recalls store msg r → r ≡ found.Reply from to → Sendable store from to
-        sendable r from to c i =
-            let w : (from ≤ to) × (to ≤ length store) = subst (Within store) i c.within in
-            let m : some (part from (to - from) store) ≡ stored_reply msg (store_entries store) = ap (found_in store) (sym i) ∙ c.means in
-            let l = length_part from (to - from) store (omega (arith, w.0, w.1)) in
-            record { low = w.0; high = w.1; short = subst (λ (k : ℕ). k ≤ max_reply) l (stored_short store is_sound_lem msg (part from (to - from) store) (sym m)) }
+        module _ (r : List ℕ) (stored : stored_reply msg (store_entries store) ≡ some r) where
+          pub reply_short : length r ≤ max_reply
+          reply_short = stored_short store is_sound_lem msg r stored
 
-        pub once_again : (r : Found) (from to : ℕ) → Recalls store msg r → r ≡ found.Reply from to → (n u p : ℕ) (out' : List ℕ)
-            → ◌≡◌ {A = Resting} (record { outcome = n; used = u; place = p; space = out' }) (repeated t (part from (to - from) store) space)
-            → ◌≡◌ {A = Once} (record { outcome = n; used = u; place = p; space = out'; table = t; store = store }) (request_once t who store msg space)
-        unfolding request_once repeated
-        once_again r from to c i n u p out' w =
-            let m : stored_reply msg (store_entries store) ≡ some (part from (to - from) store) = sym (ap (found_in store) (sym i) ∙ c.means) in
-            ap (stays t store) w ∙ sym (rw (mine, ← e, h, m, rests) (unfold by_store in (go (eqb (resting_outcome t space) 0))))
-          where
-            go : (z : Bool)
-                → pick z (again (part from (to - from) store) t store space) (unanswered (resting_outcome t space) t store space)
-                ≡ stays t store (pick z (record { outcome = 0; used = length (part from (to - from) store); place = 0; space = put 0 (part from (to - from) store) space }) (silent (resting_outcome t space) space))
-            go true = refl
-            go false = refl
+          pub once_again : (n u p : ℕ) (out' : List ℕ)
+              → ◌≡◌ {A = Resting} (record { outcome = n; used = u; place = p; space = out' }) (repeated t r space)
+              → ◌≡◌ {A = Once} (record { outcome = n; used = u; place = p; space = out'; table = t; store = store }) (request_once t who store msg space)
+          unfolding request_once repeated
+          once_again n u p out' w = ap (stays t store) w ∙ sym (rw (mine, ← e, h, stored, rests) (unfold by_store in (go (eqb (resting_outcome t space) 0))))
+            where
+              go : (z : Bool)
+                  → pick z (again r t store space) (unanswered (resting_outcome t space) t store space)
+                  ≡ stays t store (pick z (record { outcome = 0; used = length r; place = 0; space = put 0 r space }) (silent (resting_outcome t space) space))
+              go true = refl
+              go false = refl
 
-        module _ (r : Found) (c : Recalls store msg r) (i : r ≡ found.Nothing) where
-          pub not_stored : stored_reply msg (store_entries store) ≡ none
-          not_stored = sym (ap (found_in store) (sym i) ∙ c.means)
-
+        module _ (not_stored : stored_reply msg (store_entries store) ≡ none) where
           module _ (k : Bool) (j : k ≡ takes (store_entries store) msg) where
             pub once_dropped : k ≡ false → (n u p : ℕ)
                 → ◌≡◌ {A = Resting} (record { outcome = n; used = u; place = p; space = space }) (dropped t space)

@@ -1,12 +1,11 @@
 -- What the code leaves on each way of a request.
 -- Assumes nothing.
-use Rattle.std.specs.Prelude.{ℕ, ◌-◌, ◌≤◌, List, ltb, eqb, length}
+use Rattle.std.specs.Prelude.{ℕ, List, ltb, eqb, length}
 use Rattle.octets.specs.Choice.{pick}
 use Rattle.octets.specs.Octets.{put}
 use Rattle.rules.specs.Limits.{min_space}
 use Rattle.rules.specs.Sound.{sound}
 use Rattle.rules.specs.Serve.{serve}
-use Rattle.rules.specs.Store.{max_reply}
 use Rattle.rules.specs.Repeats.{Once, unanswered, anew, engine_reply}
 
 -- outcomes 1 and 2 of a request whose header is allowed, or 0
@@ -35,9 +34,3 @@ dropped t space = pick (eqb (resting_outcome t space) 0) (silent 6 space) (silen
 unfoldable pub renewed : List ℕ → ℕ → List ℕ → List ℕ → List ℕ → Once
 renewed t who store msg space =
     pick (eqb (serve t who msg space).outcome 0) (anew (serve t who msg space) (engine_reply t who msg) store msg) (unanswered (serve t who msg space).outcome t store space)
-
--- a part of a store that may be sent as a reply
-pub record Sendable (store : List ℕ) (from to : ℕ) : Type 0 where
-  pub low : from ≤ to
-  pub high : to ≤ length store
-  pub short : to - from ≤ max_reply

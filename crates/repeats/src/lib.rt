@@ -2,15 +2,13 @@
 // on every way: by the engine, or here where the engine is not asked.
 #![tactic(auto)]
 
-ghost use Rattle.std.specs.Prelude.{◌≡◌, ◌-◌, T};
-ghost use Rattle.octets.specs.Octets.{part};
+ghost use Rattle.std.specs.Prelude.{◌≡◌, ◌≤◌, T, length};
 ghost use Rattle.rules.specs.Model.{is_peer};
-ghost use Rattle.rules.specs.Store.{store_sound};
+ghost use Rattle.rules.specs.Store.{store_sound, max_reply};
 ghost use Rattle.rules.specs.Repeats.{request_once};
-ghost use Rattle.repeats.specs.Steps.{resting_outcome, repeated, dropped, renewed, Sendable};
+ghost use Rattle.repeats.specs.Steps.{resting_outcome, repeated, dropped, renewed};
 
 use engine::Served;
-use store::Found;
 
 // Outcomes 1 and 2 of a request whose header is allowed, or 0 where neither stands.
 fn resting_outcome(t: &[u8], out: &[u8]) -> u32
@@ -36,19 +34,19 @@ fn unanswered(outcome: u32) -> Served
     }
 }
 
-// A repeat: the reply that stands in the store from one place to another.
-fn repeat(t: &[u8], store: &[u8], from: usize, to: usize, out: &mut [u8]) -> Served
-    requires { Sendable store.now from to }
-    ensures { record { outcome = result.outcome; used = result.used; place = result.place; space = out.new } ≡ repeated t.now (part from (to - from) store.now) out.old }
+// A repeat: the reply that stands in the store.
+fn repeat(t: &[u8], reply: &[u8], out: &mut [u8]) -> Served
+    requires { length reply.now ≤ max_reply }
+    ensures { record { outcome = result.outcome; used = result.used; place = result.place; space = out.new } ≡ repeated t.now reply.now out.old }
 {
     let outcome = resting_outcome(t, out);
     if outcome != 0 {
         return unanswered(outcome);
     }
-    octets::copy(out, 0, &store[from..to]);
+    octets::copy(out, 0, reply);
     Served {
         outcome: 0,
-        used: to - from,
+        used: reply.len(),
         place: 0,
     }
 }
@@ -91,16 +89,13 @@ fn serve_peer(t: &mut [u8], peer: u32, store: &mut [u8], msg: &[u8], out: &mut [
     if !store::is_request(msg) {
         return engine::serve(t, peer, msg, out);
     }
-    let found = store::recall(store, msg);
-    match found {
-        Found::Reply(from, to) => return repeat(t, store, from, to, out),
-        Found::Nothing => {
-            if !store::takes(store, msg) {
-                return drop_old(t, out);
-            }
-            return renew(t, peer, store, msg, out);
-        }
+    if let Some(reply) = store::recall(store, msg) {
+        return repeat(t, reply, out);
     }
+    if !store::takes(store, msg) {
+        return drop_old(t, out);
+    }
+    renew(t, peer, store, msg, out)
 }
 
 // One request on any octets, the table, the store of the peer, the message and the reply space, under any number as its peer's: where that is no

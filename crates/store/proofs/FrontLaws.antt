@@ -1,25 +1,19 @@
 -- The entry at the front of some octets, by the tests in turn, and what it is known to be. Assumes nothing.
-use Rattle.std.proofs.Common.{◌≡◌, ℕ, ◌+◌, ◌-◌, ◌<◌, ◌≤◌, Bool, true, false, ◌&&◌, T, ltb, leb, List, length, take, drop, sym, refl, ap, ◌∙◌, arith, length-drop, ltb-true, lt-ltb, le-leb, leb-true}
+use Rattle.std.proofs.Common.{◌≡◌, ℕ, ◌+◌, ◌-◌, ◌<◌, ◌≤◌, Bool, true, false, ◌&&◌, T, ltb, leb, List, length, take, drop, sym, ap, ◌∙◌, arith, ltb-true, lt-ltb, le-leb, leb-true}
 use borrow.Author.Tests.{lt-leb}
-use Rattle.octets.specs.Choice.{pick}
 use Rattle.octets.specs.Octets.{part, number, number_at}
 use Rattle.octets.proofs.Tests.{and_left, and_right, is_true, of_true}
-use Rattle.octets.proofs.Put.{part_from}
 use Rattle.rules.specs.Store.{message_length, reply_length, entry_length, request_allowed, reply_allowed, max_reply}
-use Rattle.store.specs.Fronts.{whole_front, front_of}
-use Rattle.store.specs.declared.Kept.TheVariants as kept
+use Rattle.store.specs.Fronts.{whole_front, Front}
 
 -- ---- the code's tests
 
 module _ (s : List ℕ) where
-  not_whole : whole_front s ≡ false → kept.Broken ≡ front_of s
-  unfolding front_of
-  not_whole h = rw h
+  pub cut_front : length s < 4 + message_length s → whole_front s ≡ false
+  unfolding whole_front
+  cut_front h = rw (lt-leb (4 + message_length s) (length s) h)
 
-  pub cut_front : length s < 4 + message_length s → kept.Broken ≡ front_of s
-  cut_front h = not_whole (unfold whole_front in (rw (lt-leb (4 + message_length s) (length s) h)))
-
-  pub short_front : length s < 4 → kept.Broken ≡ front_of s
+  pub short_front : length s < 4 → whole_front s ≡ false
   short_front h = cut_front (omega arith)
 
   module _ (n : ℕ) (size : n ≡ number (part 0 2 s)) where
@@ -27,7 +21,7 @@ module _ (s : List ℕ) where
     unfolding message_length number_at
     is_size = size
 
-    pub cut_message : length s - 2 < 2 + n → 4 ≤ length s → kept.Broken ≡ front_of s
+    pub cut_message : length s - 2 < 2 + n → 4 ≤ length s → whole_front s ≡ false
     cut_message h l = cut_front (rw (← is_size) (omega arith))
 
     module _ (there : 2 + n ≤ length s - 2) (long : 4 ≤ length s) (b : Bool) (request : b ≡ request_allowed (take (2 + n - 2) (drop 2 s))) where
@@ -37,8 +31,9 @@ module _ (s : List ℕ) where
       is_request_lem : request_allowed (part 2 (message_length s) s) ≡ b
       is_request_lem = let e : 2 + n - 2 ≡ n = omega arith in ap (λ (k : ℕ). request_allowed (part 2 k s)) (sym (e ∙ is_size)) ∙ sym request
 
-      pub no_request : b ≡ false → kept.Broken ≡ front_of s
-      no_request h = not_whole (unfold whole_front in (rw (is_there, is_request_lem, h)))
+      pub no_request : b ≡ false → whole_front s ≡ false
+      unfolding whole_front
+      no_request h = rw (is_there, is_request_lem, h)
 
       module _ (fine : b ≡ true) (k : ℕ) (reply : k ≡ number (part (2 + n) 2 s)) where
         is_reply : k ≡ reply_length s
@@ -49,37 +44,31 @@ module _ (s : List ℕ) where
         unfolding entry_length
         is_end = rw (← is_size, ← is_reply)
 
-        pub no_reply : k ≡ 0 → kept.Broken ≡ front_of s
-        no_reply h = not_whole (unfold whole_front reply_allowed in (rw (is_there, is_request_lem, fine, ← is_reply, h)))
+        pub no_reply : k ≡ 0 → whole_front s ≡ false
+        unfolding whole_front reply_allowed
+        no_reply h = rw (is_there, is_request_lem, fine, ← is_reply, h)
 
-        pub long_reply : max_reply < k → kept.Broken ≡ front_of s
-        long_reply h = not_whole (unfold whole_front reply_allowed in (rw (is_there, is_request_lem, fine, ← is_reply, lt-ltb 0 k (omega arith), lt-leb k max_reply h)))
+        pub long_reply : max_reply < k → whole_front s ≡ false
+        unfolding whole_front reply_allowed
+        long_reply h = rw (is_there, is_request_lem, fine, ← is_reply, lt-ltb 0 k (omega arith), lt-leb k max_reply h)
 
         module _ (some : k ≡ 0 → ⊥) (fits : k ≤ max_reply) where
           is_allowed_lem : reply_allowed (reply_length s) ≡ true
           unfolding reply_allowed
           is_allowed_lem = rw (← is_reply, lt-ltb 0 k (omega (arith, some)), le-leb k max_reply fits)
 
-          pub cut_reply : length s - 2 - (2 + n) < k → kept.Broken ≡ front_of s
-          cut_reply h = not_whole (unfold whole_front in (rw (is_there, is_request_lem, fine, is_allowed_lem, lt-leb (entry_length s) (length s) (rw is_end (omega arith)))))
+          pub cut_reply : length s - 2 - (2 + n) < k → whole_front s ≡ false
+          unfolding whole_front
+          cut_reply h = rw (is_there, is_request_lem, fine, is_allowed_lem, lt-leb (entry_length s) (length s) (rw is_end (omega arith)))
 
-          pub an_entry : k ≤ length s - 2 - (2 + n) → kept.Entry (2 + n) (2 + n + 2 + k) ≡ front_of s
-          unfolding front_of
-          an_entry h =
-              let e : 2 + n + 2 + k ≡ 4 + n + k = omega arith in
-              let w : whole_front s ≡ true = unfold whole_front in (rw (is_there, is_request_lem, fine, is_allowed_lem, le-leb (entry_length s) (length s) (rw is_end (omega arith)))) in
-              rw (w, is_end, ← is_size, e)
-
--- ---- what an answer says
-
--- an entry that is whole and allowed
-pub record Front (s : List ℕ) (m e : ℕ) : Type 0 where
-  pub whole : whole_front s ≡ true
-  pub message : m ≡ 2 + message_length s
-  pub size : e ≡ 4 + message_length s + reply_length s
-  pub high : e ≤ length s
-  pub some : 0 < reply_length s
-  pub less : length (take (length s - e) (drop e s)) < length s
+          pub an_entry : k ≤ length s - 2 - (2 + n) → Front s (record { message_end = 2 + n; end = 2 + n + 2 + k })
+          an_entry h = record {
+            whole = unfold whole_front in (rw (is_there, is_request_lem, fine, is_allowed_lem, le-leb (entry_length s) (length s) (rw is_end (omega arith))));
+            message = rw is_size;
+            size = rw (← is_size, ← is_reply) (omega arith);
+            high = omega arith;
+            some = rw (← is_reply) (omega (arith, some));
+          }
 
 -- the four tests of an entry at the front
 pub record Whole (s : List ℕ) : Type 0 where
@@ -107,24 +96,3 @@ is_whole s e =
       fits = leb-true _ _ (is_true (leb (reply_length s) max_reply) (and_right (ltb 0 (reply_length s)) (leb (reply_length s) max_reply) cc'));
       high = leb-true _ _ (is_true d (and_right (a && b && c) d h));
     }
-
-pub front : (s : List ℕ) (m e : ℕ) → kept.Entry m e ≡ front_of s → Front s m e
-unfolding front_of
-front s m e = go (whole_front s) refl
-  where
-    go : (b : Bool) → whole_front s ≡ b → kept.Entry m e ≡ pick b (kept.Entry (2 + message_length s) (entry_length s)) kept.Broken → Front s m e
-    go true p h =
-        let w = is_whole s p in
-        let i : m ≡ 2 + message_length s = cc in
-        let j : e ≡ entry_length s = cc in
-        let k : e ≡ 4 + message_length s + reply_length s = j ∙ (unfold entry_length in refl) in
-        record { whole = p; message = i; size = k; high = rw j w.high; some = w.some; less = rw (part_from e s, length-drop) (omega (arith, w.high, w.there, j)) }
-    go false p h = let z : ◌≡◌ {A = ℕ} 0 1 = cc in absurd (omega arith)
-
-pub no_front : (s : List ℕ) → kept.Broken ≡ front_of s → whole_front s ≡ false
-unfolding front_of
-no_front s = go (whole_front s) refl
-  where
-    go : (b : Bool) → whole_front s ≡ b → kept.Broken ≡ pick b (kept.Entry (2 + message_length s) (entry_length s)) kept.Broken → b ≡ false
-    go true p h = let z : ◌≡◌ {A = ℕ} 0 1 = cc in absurd (omega arith)
-    go false p h = refl

@@ -4,7 +4,7 @@ use Rattle.std.proofs.Common.{◌≡◌, ℕ, suc, ◌+◌, ◌-◌, ◌<◌, �
 use mathlib.Core.Option.{Option, none, some}
 use lib.Seq.{drop-append-add}
 use Rattle.octets.specs.Choice.{value_or, map_option}
-use Rattle.octets.specs.Octets.{be, part, zeros, concat_map}
+use Rattle.octets.specs.Octets.{be, zeros, concat_map}
 use Rattle.octets.specs.Lists.{all, find_by}
 use Rattle.octets.proofs.ListLaws.{Every, every_imply, all_every, all_behind, found_knows}
 use Rattle.octets.proofs.Numbers.{length_be}
@@ -13,10 +13,7 @@ use Rattle.octets.proofs.Tests.{all_head}
 use Rattle.rules.specs.Message.{header_length}
 use Rattle.rules.specs.Store.{Entry, entry_octets, entry_allowed, store_sound, store_entries, store_length, stored_reply, newest, has_message, reply_of, max_reply}
 use Rattle.rules.specs.Repeats.{number_of, newer, takes, takes_after}
-use Rattle.store.specs.Fronts.{span_of, reply_among, found_in, Within, Finds}
-use Rattle.store.specs.Answers.{Recalls}
-use Rattle.store.specs.declared.Found.{Found}
-use Rattle.store.specs.declared.Found.TheVariants as found
+use Rattle.store.specs.Fronts.{span_of, reply_among}
 use Rattle.store.proofs.RequestTests.{request_header}
 use Rattle.store.proofs.EntryLaws.{allowed}
 use Rattle.store.proofs.EntriesLaws.{all_octets, read_span, read_reply}
@@ -51,33 +48,8 @@ module _ (s : List ℕ) (h : T (store_sound s)) where
 
   -- ---- the reply to a message
 
-  among_is : (msg : List ℕ) → reply_among (get_or s 0 0) (tail s) msg ≡ stored_reply msg (store_entries s)
+  pub among_is : (msg : List ℕ) → reply_among (get_or s 0 0) (tail s) msg ≡ stored_reply msg (store_entries s)
   among_is msg = ap₂ (λ (k : ℕ) (x : List ℕ). reply_among k x msg) count_is tail_is ∙ read_reply (store_entries s) (zeros (room_left (store_entries s))) msg w.keeping.allowed
-
-  module _ (msg : List ℕ) (r : Found) (f : Finds (get_or s 0 0) (tail s) msg r) where
-    pub recall_none : r ≡ found.Nothing → Recalls s msg found.Nothing
-    recall_none e = record { means = ap (found_in (tail s)) (sym e) ∙ f.means ∙ among_is msg; within = tt }
-
-    within_tail : (a b : ℕ) → r ≡ found.Reply a b → (a ≤ b) × (b ≤ length (tail s))
-    within_tail a b e = subst (Within (tail s)) e f.within
-
-    pub recall_room : (a b : ℕ) → r ≡ found.Reply a b → (a ≤ b) × (b + 1 ≤ length s)
-    recall_room a b e =
-        let i = within_tail a b e in
-        let t : length (tail s) ≡ length s - 1 = rw (part_from 1 s) (length-drop 1 s) in
-        (i.0, omega (arith, i.1, store_long))
-
-    pub recall_reply : (a b : ℕ) → r ≡ found.Reply a b → Recalls s msg (found.Reply (a + 1) (b + 1))
-    recall_reply a b e =
-        let i = recall_room a b e in
-        let k : b + 1 - (a + 1) ≡ b - a = omega arith in
-        let t : part (a + 1) (b - a) s ≡ part a (b - a) (tail s) =
-        let j : 1 + a ≡ a + 1 = omega arith in
-        ap (take (b - a)) (sym (ap (drop a) (part_from 1 s) ∙ drop-drop a 1 s ∙ ap (λ (n : ℕ). drop n s) j)) in
-        record {
-          means = ap some (ap (λ (n : ℕ). part (a + 1) n s) k ∙ t) ∙ ap (found_in (tail s)) (sym e) ∙ f.means ∙ among_is msg;
-          within = (omega (arith, i.0), i.1);
-        }
 
 -- ---- the newest entry
 

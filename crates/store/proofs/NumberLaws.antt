@@ -1,5 +1,5 @@
 -- Sequence numbers: where a message has its own, and the difference of two. Assumes nothing.
-use Rattle.std.proofs.Common.{◌≡◌, ℕ, ◌+◌, ◌-◌, ◌%◌, ◌^◌, ◌<◌, ◌≤◌, Bool, false, leb, List, ◌++◌, length, get_or, take, drop, sym, ap, ◌∙◌, arith, length-drop, le-leb}
+use Rattle.std.proofs.Common.{◌≡◌, ℕ, ◌+◌, ◌-◌, ◌%◌, ◌^◌, ◌<◌, ◌≤◌, false, leb, List, ◌++◌, length, get_or, take, drop, sym, ap, ◌∙◌, arith, length-drop, le-leb}
 use lib.ListN.{get_or-append}
 use lib.Seq.{drop-append-le, take-append-le}
 use Rattle.octets.specs.Choice.{pick}
@@ -46,15 +46,18 @@ module _ (m z : List ℕ) (whole : header_length m ≤ length m) where
 
 -- ---- the difference of two
 
-module _ (n m w : ℕ) (hn : n < 2 ^ 24) (hm : m < 2 ^ 24) (hw : w < 2 ^ 32) (wraps : (w + m) % 2 ^ 32 ≡ n) where
-  past_is : past n m ≡ w % 16777216
+module _ (n m : ℕ) (hn : n < 2 ^ 24) (hm : m < 2 ^ 24) where
+  abbrev pub difference : ℕ
+  difference = (n + (4294967296 - m)) % 4294967296 % 16777216
+
+  past_is : past n m ≡ difference
   unfolding past
   past_is = omega arith
 
-  pub equal_not_newer : w % 16777216 ≡ 0 → false ≡ newer n m
+  pub by_difference : (difference ≡ 0 → ⊥) → leb difference 8388607 ≡ newer n m
+  unfolding newer
+  by_difference h = rw (past_is, le-leb 1 difference (omega (arith, h)))
+
+  pub equal_not_newer : difference ≡ 0 → false ≡ newer n m
   unfolding newer
   equal_not_newer h = rw (past_is, h)
-
-  pub by_difference : (r : Bool) → (w % 16777216 ≡ 0 → ⊥) → r ≡ leb (w % 16777216) 8388607 → r ≡ newer n m
-  unfolding newer
-  by_difference r h e = rw (past_is, le-leb 1 (w % 16777216) (omega (arith, h))) e

@@ -1,11 +1,10 @@
 -- A message that would get none of outcomes 3 to 5, by what its header says; and octets that are equal. Assumes nothing.
-use Rattle.std.proofs.Common.{◌≡◌, ℕ, ◌≤◌, Bool, true, false, not, ◌&&◌, T, eqb, ltb, leb, List, length, refl, ap, ◌∙◌, ltb-false, ltb-true, le-leb}
+use Rattle.std.proofs.Common.{◌≡◌, ℕ, ◌≤◌, Bool, true, false, not, ◌&&◌, T, eqb, ltb, leb, List, [], ◌∷◌, length, refl, ap, nat_eq, ltb-false, ltb-true, le-leb, ◌∙◌}
+use Rattle.std.specs.Cmp.Lexicographic.{pointwise}
 use borrow.Author.Tests.{lt-leb}
-use lib.Seq.{take-length}
 use Rattle.octets.specs.Choice.{pick}
-use Rattle.octets.specs.Octets.{part, same_octets}
-use Rattle.octets.proofs.Numbers.{same_eq}
-use Rattle.octets.proofs.Tests.{of_true, and_left, and_right}
+use Rattle.octets.specs.Octets.{same_octets}
+use Rattle.octets.proofs.Tests.{and_left, and_right}
 use Rattle.laws.proofs.HeaderLaws.{header_long}
 use Rattle.rules.specs.Limits.{max_message}
 use Rattle.rules.specs.Message.{header_allowed, served, kind_of, header_seid, set_deletion, header_length}
@@ -38,17 +37,13 @@ by_header msg = go (ltb max_message (length msg)) refl
 pub told : (msg : List ℕ) (o : Opening) → o ≡ header_of msg → passes o ≡ request_allowed msg
 told msg o e = ap passes e ∙ by_header msg
 
--- octets of other lengths are not equal
-pub lengths_differ : (a b : List ℕ) → (length a ≡ length b → ⊥) → false ≡ same_octets a b
-lengths_differ a b n = go (same_octets a b) refl
-  where
-    go : (t : Bool) → same_octets a b ≡ t → false ≡ t
-    go true e = absurd (n (ap length (same_eq a b (of_true e))))
-    go false e = refl
-
--- all of them
-pub all_same : (a b : List ℕ) (r : Bool) → length a ≡ length b → r ≡ same_octets (part 0 (length a) a) (part 0 (length a) b) → r ≡ same_octets a b
-all_same a b r e h = h ∙ rw (take-length a, e, take-length b)
+-- what `==` says of two slices
+pub same_is : (a b : List ℕ) → pointwise nat_eq a b ≡ same_octets a b
+unfolding same_octets
+same_is [] [] = refl
+same_is [] (y ∷ ys) = refl
+same_is (x ∷ xs) [] = refl
+same_is (x ∷ xs) (y ∷ ys) = ap (λ (t : Bool). eqb x y && t) (same_is xs ys)
 
 -- its header is whole
 pub request_header : (msg : List ℕ) → T (request_allowed msg) → header_length msg ≤ length msg

@@ -1,15 +1,12 @@
 -- The entry at the front of some octets, as the code finds it, and the walks over entries: how far they reach, the reply to a message, and
 -- whether each is allowed and no message stands twice.
 -- Assumes nothing.
-use Rattle.std.specs.Prelude.{◌≡◌, ℕ, zero, suc, ◌+◌, ◌-◌, ◌≤◌, Bool, not, ◌&&◌, List, length, drop, nat_le}
+use Rattle.std.specs.Prelude.{◌≡◌, ℕ, zero, suc, ◌+◌, ◌<◌, ◌≤◌, Bool, true, not, ◌&&◌, List, length, drop, nat_le}
 use Rattle.std.proofs.Math.Option.{Option, none, some}
 use Rattle.octets.specs.Choice.{pick, is_some}
 use Rattle.octets.specs.Octets.{part, same_octets, all_zero}
 use Rattle.rules.specs.Store.{message_length, reply_length, entry_length, request_allowed, reply_allowed}
-use Rattle.store.specs.declared.Kept.{Kept}
-use Rattle.store.specs.declared.Kept.TheVariants as kept
-use Rattle.store.specs.declared.Found.{Found}
-use Rattle.store.specs.declared.Found.TheVariants as found
+use Rattle.store.specs.declared.Entry.{Entry}
 
 -- an entry stands there whole, and is allowed
 unfoldable pub whole_front : List ℕ → Bool
@@ -17,8 +14,12 @@ whole_front s =
     nat_le (4 + message_length s) (length s) && request_allowed (part 2 (message_length s) s) && reply_allowed (reply_length s) && nat_le (entry_length s) (length s)
 
 -- where its message ends, and where it ends
-unfoldable pub front_of : List ℕ → Kept
-front_of s = pick (whole_front s) (kept.Entry (2 + message_length s) (entry_length s)) kept.Broken
+pub record Front (s : List ℕ) (e : Entry) : Type 0 where
+  pub whole : whole_front s ≡ true
+  pub message : e.message_end ≡ 2 + message_length s
+  pub size : e.end ≡ 4 + message_length s + reply_length s
+  pub high : e.end ≤ length s
+  pub some : 0 < reply_length s
 
 -- how many octets n entries take
 unfoldable pub span_of : ℕ → List ℕ → ℕ
@@ -38,17 +39,3 @@ unfoldable pub sound_from : ℕ → List ℕ → Bool
 sound_from zero s = all_zero s
 sound_from (suc n) s =
     whole_front s && not (is_some (reply_among n (drop (entry_length s) s) (part 2 (message_length s) s))) && sound_from n (drop (entry_length s) s)
-
--- what an answer about the octets s says: a reply stands from one place to another
-abbrev pub found_in : List ℕ → Found → Option (List ℕ)
-found_in s found.Nothing = none
-found_in s (found.Reply from to) = some (part from (to - from) s)
-
--- within the octets
-abbrev pub Within : List ℕ → Found → Type 0
-Within s found.Nothing = Unit {0}
-Within s (found.Reply from to) = (from ≤ to) × (to ≤ length s)
-
-pub record Finds (n : ℕ) (s msg : List ℕ) (r : Found) : Type 0 where
-  pub means : found_in s r ≡ reply_among n s msg
-  pub within : Within s r

@@ -4,13 +4,14 @@
 // message, its reply's length (2) and the reply; docs/ has the layout.
 #![tactic(auto)]
 
-ghost use Rattle.std.specs.Prelude.{◌≡◌, ◌+◌, ◌-◌, ◌<◌, ◌≤◌, T, [], ◌∷◌, ◌++◌, length};
+ghost use Rattle.std.specs.Prelude.{◌≡◌, ◌+◌, ◌-◌, ◌<◌, ◌≤◌, T, false, [], ◌∷◌, ◌++◌, length, MatchOption, is_ok};
+ghost use Rattle.std.proofs.Math.Option.{none, some};
 ghost use Rattle.octets.specs.Octets.{put, same_octets};
 ghost use Rattle.octets.specs.Choice.{rest};
-ghost use Rattle.rules.specs.Store.{entry, entry_octets, store_length, store_octets, store_entries, request_allowed, store_sound, remember, max_entries, empty};
+ghost use Rattle.rules.specs.Store.{entry, entry_octets, store_length, store_octets, store_entries, request_allowed, store_sound, stored_reply, remember, max_entries, empty};
 ghost use Rattle.rules.specs.Repeats.{takes};
-ghost use Rattle.store.specs.Answers.{Recalls, Keepable};
-ghost use Rattle.store.specs.Fronts.{front_of, span_of, sound_from, Finds};
+ghost use Rattle.store.specs.Answers.{Keepable};
+ghost use Rattle.store.specs.Fronts.{whole_front, Front, span_of, reply_among, sound_from};
 
 use frame::header::Header;
 
@@ -23,14 +24,16 @@ pub const REPLY: usize = format::SPACE;
 
 pub const LENGTH: usize = 1 + ENTRIES * (2 + format::MESSAGE + 2 + REPLY);
 
-// What stands at the front of some octets of a store.
-#[derive(Clone, Copy)]
-pub enum Kept {
-    // No entry that is whole and allowed.
-    Broken,
-    // An entry: where its message, which starts at octet 2, ends, and where the entry ends.
-    Entry(usize, usize),
+// An entry at the front of some octets: where its message, which starts at octet 2, ends, and where the entry ends.
+#[derive(Clone, Copy, Debug, PartialEq, Eq)]
+struct Entry {
+    message_end: usize,
+    end: usize,
 }
+
+// A store of another length than LENGTH.
+#[derive(Clone, Copy, Debug, PartialEq, Eq)]
+pub struct WrongLength;
 
 // Whether a message would get none of outcomes 3 to 5.
 pub fn is_request(msg: &[u8]) -> bool
@@ -45,31 +48,25 @@ pub fn is_request(msg: &[u8]) -> bool
     }
 }
 
-// The entry at the front of s.
-fn front(s: &[u8]) -> Kept
-    ensures { result ≡ front_of s.now }
+// The entry at the front of s, if one stands there whole and is allowed.
+fn front(s: &[u8]) -> Option<Entry>
+    ensures { MatchOption result (whole_front s.now ≡ false) (λ entry. Front s.now entry) }
 {
     if s.len() < 4 {
-        return Kept::Broken;
+        return None;
     }
-    let end = 2 + octets::read(s, 0, 2) as usize;
-    if s.len() - 2 < end {
-        return Kept::Broken;
+    let message_end = 2 + octets::read(s, 0, 2) as usize;
+    if s.len() - 2 < message_end || !is_request(&s[2..message_end]) {
+        return None;
     }
-    if !is_request(&s[2..end]) {
-        return Kept::Broken;
+    let n = octets::read(s, message_end, 2) as usize;
+    if n == 0 || REPLY < n || s.len() - 2 - message_end < n {
+        return None;
     }
-    let n = octets::read(s, end, 2) as usize;
-    if n == 0 {
-        return Kept::Broken;
-    }
-    if REPLY < n {
-        return Kept::Broken;
-    }
-    if s.len() - 2 - end < n {
-        return Kept::Broken;
-    }
-    Kept::Entry(end, end + 2 + n)
+    Some(Entry {
+        message_end,
+        end: message_end + 2 + n,
+    })
 }
 
 // How many octets the n entries at the front of s take.
@@ -77,53 +74,28 @@ fn span(s: &[u8], n: usize) -> usize
     ensures { (result ≡ span_of n s.now) × (result ≤ length s.now) }
 {
     let mut rest = s;
-    let mut left = n;
-    while 0 < left {
-        let kept = front(rest);
-        let Kept::Entry(m, e) = kept else {
-            return s.len() - rest.len();
+    for i in 0..n {
+        let Some(entry) = front(rest) else {
+            break;
         };
-        rest = &rest[e..];
-        left -= 1;
+        rest = &rest[entry.end..];
     }
     s.len() - rest.len()
 }
 
-fn equal(a: &[u8], b: &[u8]) -> bool
-    ensures { result ≡ same_octets a.now b.now }
-{
-    if a.len() != b.len() {
-        return false;
-    }
-    octets::same(a, 0, b, 0, a.len())
-}
-
-// Where the reply to a message stands: its first octet's place, and the place behind its last.
-#[derive(Clone, Copy)]
-pub enum Found {
-    Nothing,
-    Reply(usize, usize),
-}
-
 // The reply that a message got, among the n entries at the front of s.
-fn find(s: &[u8], n: usize, msg: &[u8]) -> Found
-    ensures { Finds n s.now msg.now result }
+fn find<'a>(s: &'a [u8], n: usize, msg: &[u8]) -> Option<&'a [u8]>
+    ensures { MatchOption result (reply_among n s.now msg.now ≡ none) (λ reply. reply_among n s.now msg.now ≡ some reply.now) }
 {
     let mut rest = s;
-    let mut left = n;
-    while 0 < left {
-        let kept = front(rest);
-        let Kept::Entry(m, e) = kept else {
-            return Found::Nothing;
-        };
-        if equal(msg, &rest[2..m]) {
-            let at = s.len() - rest.len();
-            return Found::Reply(at + m + 2, at + e);
+    for i in 0..n {
+        let entry = front(rest)?;
+        if msg == &rest[2..entry.message_end] {
+            return Some(&rest[entry.message_end + 2..entry.end]);
         }
-        rest = &rest[e..];
-        left -= 1;
+        rest = &rest[entry.end..];
     }
-    Found::Nothing
+    None
 }
 
 // Whether n entries stand at the front of s, each allowed, no two with equal messages, and zeros behind them.
@@ -131,18 +103,15 @@ fn sound_from(s: &[u8], n: usize) -> bool
     ensures { result ≡ sound_from n s.now }
 {
     let mut rest = s;
-    let mut left = n;
-    while 0 < left {
-        let kept = front(rest);
-        let Kept::Entry(m, e) = kept else {
+    for i in 0..n {
+        let Some(entry) = front(rest) else {
             return false;
         };
-        let found = find(&rest[e..], left - 1, &rest[2..m]);
-        let Found::Nothing = found else {
+        let later = &rest[entry.end..];
+        if find(later, n - (i + 1), &rest[2..entry.message_end]).is_some() {
             return false;
-        };
-        rest = &rest[e..];
-        left -= 1;
+        }
+        rest = later;
     }
     octets::is_zero_long(rest, 0, rest.len())
 }
@@ -151,26 +120,15 @@ fn sound_from(s: &[u8], n: usize) -> bool
 pub fn is_sound(s: &[u8]) -> bool
     ensures { result ≡ store_sound s.now }
 {
-    if s.len() != LENGTH {
-        return false;
-    }
-    let n = s[0] as usize;
-    if ENTRIES < n {
-        return false;
-    }
-    sound_from(&s[1..], n)
+    s.len() == LENGTH && s[0] as usize <= ENTRIES && sound_from(&s[1..], s[0] as usize)
 }
 
-// Where the reply that a message got stands in the store.
-pub fn recall(s: &[u8], msg: &[u8]) -> Found
+// The reply that a message got.
+pub fn recall<'a>(s: &'a [u8], msg: &[u8]) -> Option<&'a [u8]>
     requires { T (store_sound s.now) }
-    ensures { Recalls s.now msg.now result }
+    ensures { MatchOption result (stored_reply msg.now (store_entries s.now) ≡ none) (λ reply. stored_reply msg.now (store_entries s.now) ≡ some reply.now) }
 {
-    let found = find(&s[1..], s[0] as usize, msg);
-    match found {
-        Found::Nothing => return Found::Nothing,
-        Found::Reply(from, to) => return Found::Reply(from + 1, to + 1),
-    }
+    find(&s[1..], s[0] as usize, msg)
 }
 
 // Whether a request's number is newer than that of the request stored last; an empty store takes any.
@@ -228,21 +186,19 @@ pub fn push(s: &mut [u8], msg: &[u8], reply: &[u8])
     requires { Keepable s.old msg.now reply.now }
     ensures { s.new ≡ store_octets (remember (entry msg.now reply.now) (store_entries s.old)) }
 {
-    if (s[0] as usize) < ENTRIES {
-        add(s, msg, reply);
-        return;
+    if ENTRIES <= s[0] as usize {
+        forget(s);
     }
-    forget(s);
     add(s, msg, reply);
 }
 
-// Empties a store: false, and nothing is written, where its length is wrong.
-pub fn clear(s: &mut [u8]) -> bool
-    ensures { record { done = result; store = s.new } ≡ empty s.old }
+// Empties a store; nothing is written where its length is wrong.
+pub fn clear(s: &mut [u8]) -> Result<(), WrongLength>
+    ensures { record { done = is_ok result; store = s.new } ≡ empty s.old }
 {
     if s.len() != LENGTH {
-        return false;
+        return Err(WrongLength);
     }
     octets::clear(s, 0, LENGTH);
-    true
+    Ok(())
 }

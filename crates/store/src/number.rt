@@ -26,9 +26,6 @@ pub(crate) fn is_newer(n: u64, m: u64) -> bool
     requires { (n < 2 ^ 24) × (m < 2 ^ 24) }
     ensures { result ≡ newer n m }
 {
-    let past = std::num::wrapping_sub_u32(n as u32, m as u32) % NUMBERS;
-    if past == 0 {
-        return false;
-    }
-    past <= NEWER
+    let past = (n as u32).wrapping_sub(m as u32) % NUMBERS;
+    past != 0 && past <= NEWER
 }

@@ -1,20 +1,20 @@
 -- `store::is_sound` meets its contract: the walk's answer is the store's. Assumes nothing.
-use Rattle.std.proofs.Common.{arith}
+use Rattle.std.proofs.Common.{sym, ◌∙◌, leb-true, leb-false, eqb-true}
 use Rattle.octets.proofs.Digits.{octets_known}
 use Rattle.store.proofs.StoreLaws.{other_length, too_many, by_walk}
 use Rattle.store.proofs.is_sound.Goals as goal
+use Rattle.store.proofs.is_sound.Goals.{then-s-eq-LENGTH, else-s-eq-LENGTH}
 
-pub returns-then-s-ne-LENGTH : goal.returns-then-s-ne-LENGTH
-returns-then-s-ne-LENGTH c = search other_length
+pub returns-then-s-le-ENTRIES : goal.returns-then-s-le-ENTRIES
+returns-then-s-le-ENTRIES c =
+    elim c.if-s-eq-LENGTH.branch [
+      | then-s-eq-LENGTH w ↦ by_walk _ w.if-s-eq-LENGTH.true (octets_known _ (λ i. (c.type_inv.s i).fits)) (leb-true _ _ (sym w.value-is ∙ c.if-s-le-ENTRIES.true)) _ c.sound_from.ensures
+      | else-s-eq-LENGTH w ↦ absurd (w.if-s-eq-LENGTH.false (eqb-true _ _ (sym w.value-is ∙ c.if-s-le-ENTRIES.true)))
+    ]
 
-pub overflow_cast-n : goal.overflow_cast-n
-overflow_cast-n c = omega (arith, c.type_inv.s 0)
-
-pub returns-then-n-gt-ENTRIES : goal.returns-then-n-gt-ENTRIES
-returns-then-n-gt-ENTRIES c = search too_many
-
-pub returns : goal.returns
-returns c =
-    let k = c in
-    let s = c.args.s.now in
-    by_walk s c.if-s-ne-LENGTH.false (octets_known s (λ i. (c.type_inv.s i).fits)) c.if-n-gt-ENTRIES.false _ c.sound_from.ensures
+pub returns-else-s-le-ENTRIES : goal.returns-else-s-le-ENTRIES
+returns-else-s-le-ENTRIES c =
+    elim c.if-s-eq-LENGTH.branch [
+      | then-s-eq-LENGTH w ↦ c.if-s-le-ENTRIES.false ∙ too_many _ w.if-s-eq-LENGTH.true (leb-false _ _ (sym w.value-is ∙ c.if-s-le-ENTRIES.false))
+      | else-s-eq-LENGTH w ↦ c.if-s-le-ENTRIES.false ∙ other_length _ w.if-s-eq-LENGTH.false
+    ]

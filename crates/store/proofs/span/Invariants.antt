@@ -2,8 +2,5 @@
 use Rattle.store.proofs.WalkLaws.{Spans}
 use Rattle.store.proofs.span.Given as goal
 
-abbrev pub invariant-loop-left : goal.invariant-loop-left
-invariant-loop-left l = Spans l.n l.s l.left l.rest
-
-abbrev pub decreases-loop-left : goal.decreases-loop-left
-decreases-loop-left l = l.left
+abbrev pub invariant-loop-i : goal.invariant-loop-i
+invariant-loop-i l = Spans l.n l.s l.i l.rest

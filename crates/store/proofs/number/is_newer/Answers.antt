@@ -2,8 +2,8 @@
 use Rattle.store.proofs.NumberLaws.{equal_not_newer, by_difference}
 use Rattle.store.proofs.number.is_newer.Goals as goal
 
-pub returns-then-past-eq0 : goal.returns-then-past-eq0
-returns-then-past-eq0 c = search equal_not_newer
+pub returns-then-past-ne0 : goal.returns-then-past-ne0
+returns-then-past-ne0 c = by_difference _ _ c.requires.0 c.requires.1 c.if-past-ne0.true
 
-pub returns : goal.returns
-returns c = search by_difference
+pub returns-else-past-ne0 : goal.returns-else-past-ne0
+returns-else-past-ne0 c = rw c.if-past-ne0.false (equal_not_newer _ _ c.requires.0 c.requires.1 c.if-past-ne0.false)
