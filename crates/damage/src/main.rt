@@ -8,6 +8,7 @@ ghost use Rattle.std.specs.Prelude.{◌≡◌, ◌≤◌, ◌<◌, length};
 ghost use Rattle.rules.specs.Layout.{table_length};
 
 use std::io;
+use table::{Broken, Refused};
 use unit::Peer;
 
 // The tables have room for four sessions. Where the first two slots end, and where a table ends.
@@ -107,10 +108,10 @@ fn counts(rt: &impl Print, t: &mut [u8], lowest: bool) -> io::Result<()>
     end(rt)
 }
 
-fn told(rt: &impl Print, count: table::Count) -> io::Result<()> {
+fn told(rt: &impl Print, count: Result<u64, Broken>) -> io::Result<()> {
     match count {
-        table::Count::Broken => number(rt, 1)?,
-        table::Count::Free(n) => {
+        Err(_) => number(rt, 1)?,
+        Ok(n) => {
             number(rt, 0)?;
             number(rt, n)?;
         }
@@ -125,10 +126,10 @@ fn free(rt: &impl Print, t: &[u8]) -> io::Result<()> {
 }
 
 // Says whether a table was made.
-fn made(rt: &impl Print, answer: table::Making) -> io::Result<()> {
+fn made(rt: &impl Print, answer: Result<(), Refused>) -> io::Result<()> {
     match answer {
-        table::Making::Made => number(rt, 0)?,
-        table::Making::Refused => number(rt, 1)?,
+        Ok(()) => number(rt, 0)?,
+        Err(_) => number(rt, 1)?,
     }
     end(rt)
 }

@@ -24,8 +24,10 @@ use Rattle.frame.specs.declared.header.Header.TheVariants.{TooLong, Malformed, N
 use Rattle.laws.proofs.HeaderLaws.{seid_there_lem, seid_absent, long_there, long_absent}
 use Rattle.frame.proofs.HeaderLaws.{Opens, request_opens, sets_opens, request_is, sets_is}
 use Rattle.frame.proofs.ServeLaws.{header_outcome, header_answered}
-use Rattle.marking.specs.declared.Walked.{Walked}
-use Rattle.marking.specs.declared.Walked.TheVariants.{Broken, Held}
+use Rattle.std.specs.Prelude.{Result, Ok}
+use Rattle.marking.specs.declared.Broken.{Broken}
+use Rattle.marking.specs.declared.Tally.{Tally}
+use Rattle.marking.specs.Refusal.{refusal}
 use Rattle.table.specs.Answers.{Examined}
 use Rattle.table.proofs.Examining.{sound_no, sound_yes, numbers}
 use Rattle.unit.specs.declared.Settings.{Settings as Unit}
@@ -49,24 +51,24 @@ small_kind k = go (eqb k establishment) (eqb k modification) (eqb k deletion) (e
     go false false false false x y z w h = absurd (subst T (sym h) tt)
 
 -- what the walk told, and what is counted with a peer's share
-module _ {t : List ℕ} {r : Walked} {w ips : List ℕ} (x : Examined t r w ips) {one two first held : ℕ} (e : r ≡ Held one two first held) {u : Unit} (z : settings_of u ≡ view_settings t) where
-  pub tallies : Tallied u t one two first
+module _ {t : List ℕ} {r : Result Tally Broken} {w ips : List ℕ} (x : Examined t r w ips) {held : Tally} (e : r ≡ Ok held) {u : Unit} (z : settings_of u ≡ view_settings t) where
+  pub tallies : Tallied u t held.one held.two held.first
   tallies =
-      let n = numbers t r w ips x one two first held e in
-      record { table = of_true (sym (sound_yes t r w ips x one two first held e)); settings = z; first_holds = n.0; second_holds = n.1; first_sessions = n.2 }
+      let n = numbers t r x.answer held e in
+      record { table = of_true (sym (sound_yes t r x.answer held e)); settings = z; first_holds = ap (λ (y : Tally). y.one) n; second_holds = ap (λ (y : Tally). y.two) n; first_sessions = ap (λ (y : Tally). y.first) n }
 
   pub counts : {who kind seid : ℕ} {share : Share} → length w ≡ map_words → length ips ≡ address_words → (share.peer ≡ who) × ShareOf (view_settings t) (view_sessions t) who share.teids share.sessions
-      → Counted (record { u = u; share = share; addresses = u.addresses - held; kind = kind; seid = seid }) t w ips
+      → Counted (record { u = u; share = share; addresses = u.addresses - held.taken; kind = kind; seid = seid }) t w ips
   unfolding free_address_count
   counts {share = share} l k part =
       record {
         settings = z;
-        marks = x.words one two first held e;
+        marks = x.words held e;
         long = l;
         own = subst (λ (n : ℕ). ShareOf (view_settings t) (view_sessions t) n share.teids share.sessions) (sym part.0) part.1;
-        address_marks = x.addresses one two first held e;
+        address_marks = x.addresses held e;
         address_long = k;
-        address_count = ap₂ (λ (a b : ℕ). a - b) (addresses_is u (view_settings t) z) (numbers t r w ips x one two first held e).3;
+        address_count = ap₂ (λ (a b : ℕ). a - b) (addresses_is u (view_settings t) z) (ap (λ (y : Tally). y.taken) (numbers t r x.answer held e));
       }
 
 -- what a request's header says
@@ -103,14 +105,14 @@ module _ (t : List ℕ) (who : ℕ) (msg out : List ℕ) where
     unfolding serve
     of_peer_lem = rw (is_true (is_peer who) known)
 
-    module _ {r : Walked} {w ips : List ℕ} (x : Examined t r w ips) where
-      pub serves_broken : {o u p : ℕ} → r ≡ Broken → (o ≡ 1) × (u ≡ 0) × (p ≡ 0) → Serves t who msg out o u p out t
+    module _ {r : Result Tally Broken} {w ips : List ℕ} (x : Examined t r w ips) where
+      pub serves_broken : {o u p : ℕ} → r ≡ refusal → (o ≡ 1) × (u ≡ 0) × (p ≡ 0) → Serves t who msg out o u p out t
       unfolding serve_of
-      serves_broken e a = without_reply 1 refl (of_peer_lem ∙ rw (sym (sound_no t r w ips x e))) a
+      serves_broken e a = without_reply 1 refl (of_peer_lem ∙ rw (sym (sound_no t r x.answer e))) a
 
-      module _ {one two first held : ℕ} (e : r ≡ Held one two first held) where
+      module _ {held : Tally} (e : r ≡ Ok held) where
         is_sound_lem : sound t ≡ true
-        is_sound_lem = sym (sound_yes t r w ips x one two first held e)
+        is_sound_lem = sym (sound_yes t r x.answer held e)
 
         after_sound : serve t who msg out ≡ serve_sound (view_settings t) who (view_sessions t) t msg out
         unfolding serve_of

@@ -128,8 +128,7 @@ fn serve_of(t: &mut [u8], peer: u32, msg: &[u8], out: &mut [u8]) -> Served
 {
     let mut words = [0u64; pool::WORDS];
     let mut ips = [0u64; pool::ADDRESS_WORDS];
-    let walked = table::examine(t, &mut words, &mut ips);
-    let marking::Walked::Held(one, two, first, held) = walked else {
+    let Ok(held) = table::examine(t, &mut words, &mut ips) else {
         return unserved(1);
     };
     if out.len() < format::SPACE {
@@ -150,8 +149,8 @@ fn serve_of(t: &mut [u8], peer: u32, msg: &[u8], out: &mut [u8]) -> Served
             };
         }
         Header::Request(kind, seid) => {
-            let share = shares::share(t, u, peer, one, two, first);
-            let free = u.addresses as usize - held;
+            let share = shares::share(t, u, peer, held.one, held.two, held.first);
+            let free = u.addresses as usize - held.taken;
             let known = Known {
                 u: u,
                 share: share,

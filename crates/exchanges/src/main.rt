@@ -18,7 +18,7 @@ ghost use Rattle.std.specs.Prelude.{◌≡◌, ◌+◌, ◌≤◌, length, IfOk}
 
 use engine::Served;
 use std::io;
-use table::{Count, Making};
+use table::{Broken, Refused};
 use unit::Peer;
 
 // How many octets a part that makes a table has, and one that changes a store.
@@ -32,10 +32,10 @@ const ROOM: usize = format::HEAD + 16 * format::SLOT;
 // So many octets of standard input are read at most.
 const INPUT: usize = 65536;
 
-fn counted(rt: &impl Print, name: &str, count: Count) -> io::Result<()> {
+fn counted(rt: &impl Print, name: &str, count: Result<u64, Broken>) -> io::Result<()> {
     match count {
-        Count::Broken => print!(rt; "{name}broken"),
-        Count::Free(free) => print!(rt; "{name}{free}"),
+        Err(_) => print!(rt; "{name}broken"),
+        Ok(free) => print!(rt; "{name}{free}"),
     }
 }
 
@@ -61,7 +61,7 @@ fn peer_at(s: &[u8], at: usize) -> Peer
 }
 
 // Makes an empty table with the settings in s in t, of the length that goes with the limit.
-fn make_in(t: &mut [u8], s: &[u8], limit: u32) -> Making
+fn make_in(t: &mut [u8], s: &[u8], limit: u32) -> Result<(), Refused>
     requires { length s.now ≡ 49 }
 {
     let ipv4 = octets::read(s, 1, 4) as u32;
@@ -96,8 +96,8 @@ fn make(t: &mut [u8], s: &[u8]) -> usize
         return 0;
     }
     match make_in(&mut t[0..end], s, limit) {
-        Making::Made => end,
-        Making::Refused => 0,
+        Ok(()) => end,
+        Err(_) => 0,
     }
 }
 

@@ -34,21 +34,18 @@ fn none() -> Counts
 pub fn all(t: &[u8]) -> Counts
     ensures { counts_told result ≡ count_all t.now }
 {
-    let mut words = [0u64; pool::WORDS];
-    let mut addresses = [0u64; pool::ADDRESS_WORDS];
-    let seen = table::examine(t, &mut words, &mut addresses);
-    let marking::Walked::Held(one, two, first, taken) = seen else {
+    let Ok(held) = table::tally(t) else {
         return none();
     };
     let u = unit::read(t);
     let n = octets::read(t, format::COUNT, 2) as usize;
     Counts {
         outcome: 0,
-        sessions1: first,
-        teids1: one,
-        sessions2: n - first,
-        teids2: two,
-        free: u.size - (one + two) as u64,
-        addresses: u.addresses - taken as u64,
+        sessions1: held.first,
+        teids1: held.one,
+        sessions2: n - held.first,
+        teids2: held.two,
+        free: u.size - (held.one + held.two) as u64,
+        addresses: u.addresses - held.taken as u64,
     }
 }

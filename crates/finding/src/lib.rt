@@ -190,12 +190,9 @@ pub fn peer_count(t: &[u8], peer: u32) -> Share
     if !unit::is_peer(peer) {
         return untold(NO_PEER);
     }
-    let mut words = [0u64; pool::WORDS];
-    let mut addresses = [0u64; pool::ADDRESS_WORDS];
-    let seen = table::examine(t, &mut words, &mut addresses);
-    let marking::Walked::Held(one, two, first, taken) = seen else {
+    let Ok(held) = table::tally(t) else {
         return untold(BROKEN);
     };
     let n = octets::read(t, format::COUNT, 2) as usize;
-    tell(peer, one, two, first, n)
+    tell(peer, held.one, held.two, held.first, n)
 }

@@ -1,5 +1,8 @@
 -- The loop over an area's records: what is left gives the same answer, the same map and the same number.
 -- Assumes nothing.
+use Rattle.std.specs.Prelude.{Result, Ok}
+use Rattle.marking.specs.declared.Broken.{Broken}
+use Rattle.marking.specs.Refusal.{refusal}
 use Rattle.std.proofs.Common.{◌≡◌, ℕ, ◌+◌, ◌-◌, ◌*◌, ◌<◌, ◌≤◌, Bool, true, false, ◌||◌, List, [], ◌∷◌, length, get_or, take, drop, sym, refl, ap, ◌∙◌, subst, zero-le, add-zero, add_assoc, zero-add, arith}
 use mathlib.Core.Option.{Option}
 use Rattle.octets.specs.Choice.{pick, cons_option}
@@ -9,8 +12,6 @@ use Rattle.rules.specs.Limits.{max_sessions}
 use Rattle.rules.specs.Model.{Settings}
 use Rattle.pool.specs.Map.{marks, new_marks}
 use Rattle.records.proofs.Turns.{slices_more}
-use Rattle.marking.specs.declared.addresses.Met.{Met}
-use Rattle.marking.specs.declared.addresses.Met.TheVariants.{Clash, New}
 use Rattle.marking.specs.Offsets.{address_at, offset_of, offsets_in, Present, holder_at, earlier, Agrees, Claimable, Claimed, AreaClaimed}
 use Rattle.marking.proofs.AddressSteps.{below, claimable, Entering, entering, marks_more, new_more, new_few, length_mark_by}
 
@@ -84,7 +85,7 @@ module _ (s : Settings) (w at : ℕ) (a : List ℕ) (n : ℕ) where
           subst (λ (k : ℕ). Claimable k hs ws) (sym here)
           (claimable turn s.address_count hs ws one most room m.agrees (offset_at i) (λ j e. below s j (address_at at (part (i * w) w a)) e))
 
-      module _ (r : Met) (hs' ws' : List ℕ) (c : Claimed turn p hs ws r hs' ws') where
+      module _ (r : Result ℕ Broken) (hs' ws' : List ℕ) (c : Claimed turn p hs ws r hs' ws') where
         entered : Entering turn s.address_count hs ws one most room m.agrees (left_from (i + 1)) (offset_at i) r hs' ws'
         entered =
             entering turn s.address_count hs ws one most room m.agrees (left_from (i + 1)) (offset_at i) (λ j e. below s j (address_at at (part (i * w) w a)) e) r hs' ws'
@@ -93,7 +94,7 @@ module _ (s : Settings) (w at : ℕ) (a : List ℕ) (n : ℕ) where
         back : (is : List ℕ) → any (earlier turn hs₀) is ≡ any (earlier turn hs) is
         back = any_same (earlier turn hs₀) (earlier turn hs) (λ j. sym (m.same j))
 
-        pub claiming_clash : r ≡ Clash → AreaClaimed turn s.address_count (offsets_in s w at n a) n hs₀ ws₀ Clash hs' ws'
+        pub claiming_clash : r ≡ refusal → AreaClaimed turn s.address_count (offsets_in s w at n a) n hs₀ ws₀ refusal hs' ws'
         claiming_clash e =
             let t : any (earlier turn hs₀) (offsets_in s w at n a) ≡ true =
             sym m.any_left ∙ ap (any (earlier turn hs₀)) (left_more i h) ∙ back (cons_option (offset_at i) (left_from (i + 1))) ∙ entered.clash e in
@@ -105,7 +106,7 @@ module _ (s : Settings) (w at : ℕ) (a : List ℕ) (n : ℕ) where
               few = λ k z. absurd (let v : ◌≡◌ {A = ℕ} 0 1 = cc in omega arith);
             }
 
-        pub claiming_more : (k : ℕ) → r ≡ New k → Claiming hs' ws' (i + 1) (new + k)
+        pub claiming_more : (k : ℕ) → r ≡ Ok k → Claiming hs' ws' (i + 1) (new + k)
         claiming_more k e =
             let qk = entered.new k e in
             let qw = entered.words k e in
@@ -129,13 +130,13 @@ module _ (s : Settings) (w at : ℕ) (a : List ℕ) (n : ℕ) where
                   ∙ m.many;
             }
 
-    pub claiming_all : {hs ws : List ℕ} {i new : ℕ} → Claiming hs ws i new → n ≤ i → AreaClaimed turn s.address_count (offsets_in s w at n a) n hs₀ ws₀ (New new) hs ws
+    pub claiming_all : {hs ws : List ℕ} {i new : ℕ} → Claiming hs ws i new → n ≤ i → AreaClaimed turn s.address_count (offsets_in s w at n a) n hs₀ ws₀ (Ok new) hs ws
     unfolding any marks new_marks
     claiming_all {hs} {ws} {i} {new} m h =
         let none-met : any (earlier turn hs₀) (offsets_in s w at n a) ≡ false = sym m.any_left ∙ ap (any (earlier turn hs₀)) (left_none i h) in
         let all : new ≡ new_marks ws₀ (offsets_in s w at n a) = sym (add-zero new) ∙ ap (λ (l : List ℕ). new + new_marks ws l) (sym (left_none i h)) ∙ m.many in
         record {
-          answer = sym (λ j. pick (none-met j) Clash (New (sym all j)));
+          answer = sym (λ j. pick (none-met j) refusal (Ok (sym all j)));
           words = λ k z. ap (marks ws) (sym (left_none i h)) ∙ m.words;
           agrees = λ k z. m.agrees;
           same = λ k z. m.same;

@@ -1,5 +1,8 @@
 -- A session's slot: endpoints first, then PDRs; and its offsets are those that the session holds.
 -- Assumes nothing.
+use Rattle.std.specs.Prelude.{Result, Ok}
+use Rattle.marking.specs.declared.Broken.{Broken}
+use Rattle.marking.specs.Refusal.{refusal}
 use Rattle.std.proofs.Common.{◌≡◌, ℕ, ◌+◌, ◌-◌, ◌<◌, ◌≤◌, Bool, true, false, not, ◌&&◌, ◌||◌, T, List, [], ◌∷◌, ◌++◌, map, length, get_or, sym, refl, ap, ◌∙◌, ap₂, arith, lt-ltb}
 use mathlib.Core.Bool.{or_assoc}
 use mathlib.Core.Option.{Option, none, some}
@@ -16,8 +19,6 @@ use Rattle.pool.proofs.Marks.{marks_append, length_marks, new_append}
 use Rattle.marking.specs.Walk.{address_offsets}
 use Rattle.records.specs.Slot.{head_sound, pdr_area, endpoint_area}
 use Rattle.records.proofs.SlotLaws.{counts_headed, slot_of, view_slot}
-use Rattle.marking.specs.declared.addresses.Met.{Met}
-use Rattle.marking.specs.declared.addresses.Met.TheVariants.{Clash, New}
 use Rattle.marking.specs.Offsets.{address_at, offset_of, offsets_in, slot_offsets, held_offsets, earlier, Agrees, AreaClaimed, SlotClaimed}
 use Rattle.marking.proofs.AddressSteps.{below}
 use Rattle.marking.proofs.AddressAreas.{any_same}
@@ -30,22 +31,22 @@ any_both p [] js = refl
 any_both p (i ∷ is) js = ap (λ (b : Bool). p i || b) (any_both p is js) ∙ sym (or_assoc (p i) (any p is) (any p js))
 
 -- what an answer says
-module _ {turn count : ℕ} {is : List ℕ} {most : ℕ} {hs ws : List ℕ} {r : Met} {hs' ws' : List ℕ} (c : AreaClaimed turn count is most hs ws r hs' ws') where
-  area_clash : r ≡ Clash → any (earlier turn hs) is ≡ true
+module _ {turn count : ℕ} {is : List ℕ} {most : ℕ} {hs ws : List ℕ} {r : Result ℕ Broken} {hs' ws' : List ℕ} (c : AreaClaimed turn count is most hs ws r hs' ws') where
+  area_clash : r ≡ refusal → any (earlier turn hs) is ≡ true
   area_clash e = go (any (earlier turn hs) is) (sym c.answer ∙ e)
     where
-      go : (b : Bool) → pick b Clash (New (new_marks ws is)) ≡ Clash → b ≡ true
+      go : (b : Bool) → pick b refusal (Ok (new_marks ws is)) ≡ refusal → b ≡ true
       go true z = refl
       go false z = absurd (let u : ◌≡◌ {A = ℕ} 0 1 = cc in omega arith)
 
-  area_new : (k : ℕ) → r ≡ New k → (any (earlier turn hs) is ≡ false) × (k ≡ new_marks ws is)
+  area_new : (k : ℕ) → r ≡ Ok k → (any (earlier turn hs) is ≡ false) × (k ≡ new_marks ws is)
   area_new k e = go (any (earlier turn hs) is) (sym c.answer ∙ e)
     where
-      go : (b : Bool) → pick b Clash (New (new_marks ws is)) ≡ New k → (b ≡ false) × (k ≡ new_marks ws is)
+      go : (b : Bool) → pick b refusal (Ok (new_marks ws is)) ≡ Ok k → (b ≡ false) × (k ≡ new_marks ws is)
       go true z = absurd (let u : ◌≡◌ {A = ℕ} 0 1 = cc in omega arith)
       go false z = (refl, (cc))
 
-  pub area_long : (k : ℕ) → r ≡ New k → length ws' ≡ length ws
+  pub area_long : (k : ℕ) → r ≡ Ok k → length ws' ≡ length ws
   area_long k e = ap length (c.words k e) ∙ length_marks ws is
 
 -- the offsets of an area, and of a slot
@@ -160,7 +161,7 @@ module _ (s : Settings) (turn : ℕ) (hs ws xs : List ℕ) (h : T (head_sound xs
       ∙ any_both (marked ws) (ends_of s xs) (pdrs_of s xs)
       ∙ (λ j. sym (any_in_lem endpoint_width endpoint_address_there_at (get_or xs endpoint_count_at 0) (endpoint_area xs)) j || sym (any_in_lem pdr_width pdr_address_there_at (get_or xs pdr_count_at 0) (pdr_area xs)) j)
 
-  clash : any (marked ws) (held_offsets s xs) ≡ true → (hs' ws' : List ℕ) → SlotClaimed s turn ws xs Clash hs' ws'
+  clash : any (marked ws) (held_offsets s xs) ≡ true → (hs' ws' : List ℕ) → SlotClaimed s turn ws xs refusal hs' ws'
   clash t hs' ws' =
       record {
         admitted = record {
@@ -171,21 +172,21 @@ module _ (s : Settings) (turn : ℕ) (hs ws xs : List ℕ) (h : T (head_sound xs
         agrees = λ n z. absurd (let u : ◌≡◌ {A = ℕ} 0 1 = cc in omega arith);
       }
 
-  module _ (e : Met) (hs₁ ws₁ : List ℕ) (qe : AreaClaimed turn s.address_count (ends_of s xs) (get_or xs endpoint_count_at 0) hs ws e hs₁ ws₁) where
-    pub slot_ends : e ≡ Clash → SlotClaimed s turn ws xs Clash hs₁ ws₁
+  module _ (e : Result ℕ Broken) (hs₁ ws₁ : List ℕ) (qe : AreaClaimed turn s.address_count (ends_of s xs) (get_or xs endpoint_count_at 0) hs ws e hs₁ ws₁) where
+    pub slot_ends : e ≡ refusal → SlotClaimed s turn ws xs refusal hs₁ ws₁
     slot_ends z = clash (any_held ∙ rw (area_clash qe z)) hs₁ ws₁
 
-    module _ (k : ℕ) (ze : e ≡ New k) (p : Met) (hs₂ ws₂ : List ℕ) (qp : AreaClaimed turn s.address_count (pdrs_of s xs) (get_or xs pdr_count_at 0) hs₁ ws₁ p hs₂ ws₂) where
+    module _ (k : ℕ) (ze : e ≡ Ok k) (p : Result ℕ Broken) (hs₂ ws₂ : List ℕ) (qp : AreaClaimed turn s.address_count (pdrs_of s xs) (get_or xs pdr_count_at 0) hs₁ ws₁ p hs₂ ws₂) where
       pdrs_same : any (earlier turn hs₁) (pdrs_of s xs) ≡ any (earlier turn hs) (pdrs_of s xs)
       pdrs_same = any_same (earlier turn hs₁) (earlier turn hs) (qe.same k ze) (pdrs_of s xs)
 
-      pub slot_pdrs : p ≡ Clash → SlotClaimed s turn ws xs Clash hs₂ ws₂
+      pub slot_pdrs : p ≡ refusal → SlotClaimed s turn ws xs refusal hs₂ ws₂
       slot_pdrs z = clash (any_held ∙ rw ((area_new qe k ze).0, ← pdrs_same, area_clash qp z)) hs₂ ws₂
 
-      pub slot_few : (j : ℕ) → p ≡ New j → k + j ≤ 24
+      pub slot_few : (j : ℕ) → p ≡ Ok j → k + j ≤ 24
       slot_few j zp = let c = counts_headed xs h in omega (arith, qe.few k ze, qp.few j zp, c.endpoints, c.pdrs)
 
-      pub slot_whole : (j : ℕ) → p ≡ New j → SlotClaimed s turn ws xs (New (k + j)) hs₂ ws₂
+      pub slot_whole : (j : ℕ) → p ≡ Ok j → SlotClaimed s turn ws xs (Ok (k + j)) hs₂ ws₂
       slot_whole j zp =
           let a = area_new qe k ze in
           let b = area_new qp j zp in
@@ -195,7 +196,7 @@ module _ (s : Settings) (turn : ℕ) (hs ws xs : List ℕ) (h : T (head_sound xs
           ap (new_marks ws) held_both ∙ new_append ws (ends_of s xs) (pdrs_of s xs) ∙ sym (ap₂ ◌+◌ a.1 (b.1 ∙ ap (λ (v : List ℕ). new_marks v (pdrs_of s xs)) we)) in
           record {
             admitted = record {
-              answer = sym (rw unmet (ap New new));
+              answer = sym (rw unmet (ap Ok new));
               words = λ n _. qp.words j zp ∙ ap (λ (v : List ℕ). marks v (pdrs_of s xs)) we ∙ sym (marks_append ws (ends_of s xs) (pdrs_of s xs)) ∙ ap (marks ws) (sym held_both);
               few = λ n v. let same : k + j ≡ n = cc in let t = slot_few j zp in omega arith;
             };

@@ -1,6 +1,9 @@
 -- The address of one record: where its holder stands, and what entering it does to the holders and to the map. Premises are what the code knows
 -- there.
 -- Assumes nothing.
+use Rattle.std.specs.Prelude.{Result, Ok}
+use Rattle.marking.specs.declared.Broken.{Broken}
+use Rattle.marking.specs.Refusal.{refusal}
 use Rattle.std.proofs.Common.{◌≡◌, ℕ, ◌+◌, ◌-◌, ◌*◌, ◌%◌, ◌^◌, ◌<◌, ◌≤◌, Bool, true, false, not, ◌&&◌, eqb, ltb, leb, List, length, get_or, set, sym, refl, ap, ◌∙◌, subst, arith, lit≤, ltb→lt, leb→le, length-set, get_or-set_other, get_or-set_same, le-ltb, lt-ltb, eq-eqb, ne_eqb, eqb-true, le-leb}
 use mathlib.Core.Option.{Option, none, some}
 use native.Mathlib.Decide.{ℕ_discrete}
@@ -16,8 +19,6 @@ use Rattle.pool.specs.Map.{mark, marks, new_marks}
 use Rattle.pool.proofs.Marks.{length_mark, marked_mark, mark_there}
 use Rattle.unit.specs.declared.Settings.{Settings as Unit}
 use Rattle.unit.specs.Meaning.{settings_of}
-use Rattle.marking.specs.declared.addresses.Met.{Met}
-use Rattle.marking.specs.declared.addresses.Met.TheVariants.{Clash, New}
 use Rattle.marking.specs.Offsets.{address_at, offset_of, new_by, mark_by, holder_at, earlier, Agrees, Claimable, Claimed}
 
 -- ---- where the holder stands
@@ -79,14 +80,14 @@ below s i (some a) e = go (leb s.first_address a) (ltb a (s.first_address + s.ad
 -- ---- entering one, by the holder there
 
 module _ (turn p : ℕ) (hs ws : List ℕ) where
-  pub claim_new : get_or hs p 0 ≡ 0 → (ws' : List ℕ) → ws' ≡ mark ws p → Claimed turn p hs ws (New 1) (set hs p turn) ws'
+  pub claim_new : get_or hs p 0 ≡ 0 → (ws' : List ℕ) → ws' ≡ mark ws p → Claimed turn p hs ws (Ok 1) (set hs p turn) ws'
   claim_new h ws' q = let e = eq-eqb (get_or hs p 0) 0 h in record { answer = sym (rw e); holders = sym (rw e); words = q ∙ sym (rw e) }
 
   module _ (h : get_or hs p 0 ≡ 0 → ⊥) where
-    pub claim_clash : get_or hs p 0 < turn → Claimed turn p hs ws Clash hs ws
+    pub claim_clash : get_or hs p 0 < turn → Claimed turn p hs ws refusal hs ws
     claim_clash l = let e = ne_eqb (get_or hs p 0) 0 h in record { answer = sym (rw (e, lt-ltb (get_or hs p 0) turn l)); holders = sym (rw e); words = sym (rw e) }
 
-    pub claim_own : turn ≤ get_or hs p 0 → Claimed turn p hs ws (New 0) hs ws
+    pub claim_own : turn ≤ get_or hs p 0 → Claimed turn p hs ws (Ok 0) hs ws
     claim_own l = let e = ne_eqb (get_or hs p 0) 0 h in record { answer = sym (rw (e, le-ltb (get_or hs p 0) turn l)); holders = sym (rw e); words = sym (rw e) }
 
 -- ---- what it says of a record's offset
@@ -134,19 +135,19 @@ module _ (turn count : ℕ) (hs ws : List ℕ) (one : 1 ≤ turn) (most : turn �
 
   module _ (rest : List ℕ) where
     -- what entering the offset o of a record before others leads to
-    pub record Entering (o : Option ℕ) (r : Met) (hs' ws' : List ℕ) : Type 0 where
-      pub clash : r ≡ Clash → any (earlier turn hs) (cons_option o rest) ≡ true
-      pub free : (k : ℕ) → r ≡ New k → any (earlier turn hs) (cons_option o rest) ≡ any (earlier turn hs) rest
-      pub new : (k : ℕ) → r ≡ New k → k ≡ new_by ws o
-      pub words : (k : ℕ) → r ≡ New k → ws' ≡ mark_by ws o
-      pub agrees : (k : ℕ) → r ≡ New k → Agrees turn count hs' ws'
-      pub same : (k : ℕ) → r ≡ New k → (i : ℕ) → earlier turn hs' i ≡ earlier turn hs i
+    pub record Entering (o : Option ℕ) (r : Result ℕ Broken) (hs' ws' : List ℕ) : Type 0 where
+      pub clash : r ≡ refusal → any (earlier turn hs) (cons_option o rest) ≡ true
+      pub free : (k : ℕ) → r ≡ Ok k → any (earlier turn hs) (cons_option o rest) ≡ any (earlier turn hs) rest
+      pub new : (k : ℕ) → r ≡ Ok k → k ≡ new_by ws o
+      pub words : (k : ℕ) → r ≡ Ok k → ws' ≡ mark_by ws o
+      pub agrees : (k : ℕ) → r ≡ Ok k → Agrees turn count hs' ws'
+      pub same : (k : ℕ) → r ≡ Ok k → (i : ℕ) → earlier turn hs' i ≡ earlier turn hs i
 
-    pub entering : (o : Option ℕ) → ((i : ℕ) → some i ≡ o → i < count) → (r : Met) (hs' ws' : List ℕ) → Claimed turn (holder_at o) hs ws r hs' ws' → Entering o r hs' ws'
+    pub entering : (o : Option ℕ) → ((i : ℕ) → some i ≡ o → i < count) → (r : Result ℕ Broken) (hs' ws' : List ℕ) → Claimed turn (holder_at o) hs ws r hs' ws' → Entering o r hs' ws'
     unfolding any earlier new_by mark_by
     entering none b r hs' ws' c =
         let e = ne_eqb (get_or hs max_addresses 0) 0 (λ z. omega (arith, g.last)) in
-        let answer : r ≡ New 0 = c.answer ∙ rw (e, le-ltb (get_or hs max_addresses 0) turn (omega (arith, g.last))) in
+        let answer : r ≡ Ok 0 = c.answer ∙ rw (e, le-ltb (get_or hs max_addresses 0) turn (omega (arith, g.last))) in
         let qh : hs' ≡ hs = c.holders ∙ rw e in
         let qw : ws' ≡ ws = c.words ∙ rw e in
         record {
@@ -168,7 +169,7 @@ module _ (turn count : ℕ) (hs ws : List ℕ) (one : 1 ≤ turn) (most : turn �
         go : (x y : Bool) → eqb (get_or hs i 0) 0 ≡ x → ltb (get_or hs i 0) turn ≡ y → Entering (some i) r hs' ws'
         go true y ex ey =
             let z = eqb-true (get_or hs i 0) 0 ex in
-            let answer : r ≡ New 1 = c.answer ∙ rw ex in
+            let answer : r ≡ Ok 1 = c.answer ∙ rw ex in
             let qh : hs' ≡ set hs i turn = c.holders ∙ rw ex in
             let qw : ws' ≡ mark ws i = c.words ∙ rw ex in
             let unmarked : marked ws i ≡ false = flip (marked ws i) (sym ex ∙ g.free i l) in
@@ -186,7 +187,7 @@ module _ (turn count : ℕ) (hs ws : List ℕ) (one : 1 ≤ turn) (most : turn �
             flip true q = q
             flip false q = refl
         go false true ex ey =
-            let answer : r ≡ Clash = c.answer ∙ rw (ex, ey) in
+            let answer : r ≡ refusal = c.answer ∙ rw (ex, ey) in
             let before : earlier turn hs i ≡ true = rw (ex, ey) in
             record {
               clash = λ q. rw before;
@@ -197,7 +198,7 @@ module _ (turn count : ℕ) (hs ws : List ℕ) (one : 1 ≤ turn) (most : turn �
               same = λ k q. absurd (let v : ◌≡◌ {A = ℕ} 0 1 = cc in omega arith);
             }
         go false false ex ey =
-            let answer : r ≡ New 0 = c.answer ∙ rw (ex, ey) in
+            let answer : r ≡ Ok 0 = c.answer ∙ rw (ex, ey) in
             let qh : hs' ≡ hs = c.holders ∙ rw ex in
             let there : marked ws i ≡ true = flip (marked ws i) (sym ex ∙ g.free i l) in
             let qw : ws' ≡ ws = c.words ∙ rw ex in

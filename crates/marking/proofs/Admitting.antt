@@ -1,5 +1,8 @@
 -- A session's slot, tested and marked: endpoints first, then PDRs.
 -- Assumes nothing.
+use Rattle.std.specs.Prelude.{Result, Ok}
+use Rattle.marking.specs.declared.Broken.{Broken}
+use Rattle.marking.specs.Refusal.{refusal}
 use Rattle.std.proofs.Common.{◌≡◌, ℕ, suc, ◌+◌, ◌-◌, ◌≤◌, Bool, true, false, not, ◌&&◌, T, List, [], ◌∷◌, ◌++◌, map, length, get_or, sym, refl, ap, ◌∙◌, subst, ap₂, suc-le-suc, zero-le, le_trans, le_of_eq, add_assoc, zero-add, arith}
 use mathlib.Core.Option.{Option, none, some}
 use borrow.Author.Tests.{not-true, not-false}
@@ -23,8 +26,6 @@ use Rattle.records.specs.Kept.{pdr_sound, endpoint_sound, csid_sound, endpoint_i
 use Rattle.records.specs.Slot.{area_sound, head_sound, pdr_area, endpoint_area, csid_area}
 use Rattle.records.proofs.SlotLaws.{Counts, counts_headed, slot_of, view_slot}
 use Rattle.records.proofs.Turns.{slot_areas}
-use Rattle.marking.specs.declared.Marks.{Marks}
-use Rattle.marking.specs.declared.Marks.TheVariants.{Clash, New}
 use Rattle.marking.specs.Marking.{endpoint_holds, pdr_holds, slot_holds, marks_after, new_after, walked, Marked, slot_keeps, Admitted}
 use Rattle.octets.proofs.Bools.{and-false}
 use Rattle.octets.proofs.Numbers.{length_slices}
@@ -88,23 +89,23 @@ few_pdrs_lem xs =
 
 -- ---- what an answer of a walk says
 
-module _ {sound : Bool} {first : ℕ} {ws : List ℕ} {hs : List Holding} {r : Marks} {ws' : List ℕ} (m : Marked sound first ws hs r ws') where
-  new_is : (n : ℕ) → r ≡ New n → ((sound && session_marks first ws [] hs) ≡ true) × (n ≡ new_after first ws hs)
+module _ {sound : Bool} {first : ℕ} {ws : List ℕ} {hs : List Holding} {r : Result ℕ Broken} {ws' : List ℕ} (m : Marked sound first ws hs r ws') where
+  new_is : (n : ℕ) → r ≡ Ok n → ((sound && session_marks first ws [] hs) ≡ true) × (n ≡ new_after first ws hs)
   unfolding walked
   new_is n e = go (sound && session_marks first ws [] hs) (sym m.answer ∙ e)
     where
-      go : (b : Bool) → pick b (New (new_after first ws hs)) Clash ≡ New n → (b ≡ true) × (n ≡ new_after first ws hs)
+      go : (b : Bool) → pick b (Ok (new_after first ws hs)) refusal ≡ Ok n → (b ≡ true) × (n ≡ new_after first ws hs)
       go true e = (refl, (cc))
       go false e = absurd (let z : ◌≡◌ {A = ℕ} 0 1 = cc in omega arith)
 
-  marked_long : (n : ℕ) → r ≡ New n → length ws' ≡ length ws
+  marked_long : (n : ℕ) → r ≡ Ok n → length ws' ≡ length ws
   marked_long n e = ap length (m.words n e) ∙ length_after first ws hs
 
-  clash_is : r ≡ Clash → (sound && session_marks first ws [] hs) ≡ false
+  clash_is : r ≡ refusal → (sound && session_marks first ws [] hs) ≡ false
   unfolding walked
   clash_is e = go (sound && session_marks first ws [] hs) (sym m.answer ∙ e)
     where
-      go : (b : Bool) → pick b (New (new_after first ws hs)) Clash ≡ Clash → b ≡ false
+      go : (b : Bool) → pick b (Ok (new_after first ws hs)) refusal ≡ refusal → b ≡ false
       go true e = absurd (let z : ◌≡◌ {A = ℕ} 0 1 = cc in omega arith)
       go false e = refl
 
@@ -139,14 +140,14 @@ module _ (u : Unit) (ws xs : List ℕ) (h : Bool) (q : h ≡ head_sound xs) wher
   abbrev pub pdrs_sound : Bool
   pdrs_sound = area_sound (pdr_sound s (endpoint_ids (get_or xs endpoint_count_at 0) (endpoint_area xs))) pdr_width 2 (get_or xs pdr_count_at 0) (pdr_area xs)
 
-  clashes : (w : List ℕ) → slot_keeps s ws xs ≡ false → Admitted s ws xs Clash w
+  clashes : (w : List ℕ) → slot_keeps s ws xs ≡ false → Admitted s ws xs refusal w
   clashes w e = record {
     answer = sym (rw e);
     words = λ n z. absurd (let u : ◌≡◌ {A = ℕ} 0 1 = cc in omega arith);
     few = λ n z. absurd (let u : ◌≡◌ {A = ℕ} 0 1 = cc in omega arith);
   }
 
-  pub admit_broken : (w : List ℕ) → not h ≡ true → Admitted s ws xs Clash w
+  pub admit_broken : (w : List ℕ) → not h ≡ true → Admitted s ws xs refusal w
   unfolding slot_keeps
   admit_broken w k = clashes w (rw (slot_areas s xs, ← q, not-true h k))
 
@@ -162,30 +163,30 @@ module _ (u : Unit) (ws xs : List ℕ) (h : Bool) (q : h ≡ head_sound xs) wher
         (regroup pdrs_sound endpoints_sound csids_sound (session_marks first ws [] (endpoints_of xs)) (session_marks first (marks_after first ws (endpoints_of xs)) [] (pdrs_of xs)))
 
     module _ (c : Bool) (qc : c ≡ csids_sound) where
-      pub admit_csids : (w : List ℕ) → not c ≡ true → Admitted s ws xs Clash w
+      pub admit_csids : (w : List ℕ) → not c ≡ true → Admitted s ws xs refusal w
       admit_csids w kc = clashes w (keeps_is ∙ rw (← qc, not-true c kc))
 
-      module _ (kc : not c ≡ false) (ends : Marks) (w : List ℕ) (me : Marked endpoints_sound first ws (endpoints_of xs) ends w) where
+      module _ (kc : not c ≡ false) (ends : Result ℕ Broken) (w : List ℕ) (me : Marked endpoints_sound first ws (endpoints_of xs) ends w) where
         areas_keep : slot_keeps s ws xs ≡ ((endpoints_sound && session_marks first ws [] (endpoints_of xs)) && (pdrs_sound && session_marks first (marks_after first ws (endpoints_of xs)) [] (pdrs_of xs)))
         areas_keep = keeps_is ∙ rw (← qc, not-false c kc)
 
-        pub ends_long : (e : ℕ) → ends ≡ New e → length w ≡ length ws
+        pub ends_long : (e : ℕ) → ends ≡ Ok e → length w ≡ length ws
         ends_long e z = marked_long me e z
 
-        pub admit_ends : (w' : List ℕ) → ends ≡ Clash → Admitted s ws xs Clash w'
+        pub admit_ends : (w' : List ℕ) → ends ≡ refusal → Admitted s ws xs refusal w'
         admit_ends w' z = clashes w' (areas_keep ∙ rw (clash_is me z))
 
-        module _ (e : ℕ) (ze : ends ≡ New e) (pdrs : Marks) (w₁ : List ℕ) (mp : Marked pdrs_sound first w (pdrs_of xs) pdrs w₁) where
+        module _ (e : ℕ) (ze : ends ≡ Ok e) (pdrs : Result ℕ Broken) (w₁ : List ℕ) (mp : Marked pdrs_sound first w (pdrs_of xs) pdrs w₁) where
           pdrs_after_lem : Marked pdrs_sound first (marks_after first ws (endpoints_of xs)) (pdrs_of xs) pdrs w₁
           pdrs_after_lem = subst (λ (v : List ℕ). Marked pdrs_sound first v (pdrs_of xs) pdrs w₁) (me.words e ze) mp
 
-          pub admit_rules : (w' : List ℕ) → pdrs ≡ Clash → Admitted s ws xs Clash w'
+          pub admit_rules : (w' : List ℕ) → pdrs ≡ refusal → Admitted s ws xs refusal w'
           admit_rules w' z = clashes w' (areas_keep ∙ (λ i. (new_is me e ze).0 i && clash_is pdrs_after_lem z i))
 
-          pub admit_few : (p : ℕ) → pdrs ≡ New p → e + p ≤ 24
+          pub admit_few : (p : ℕ) → pdrs ≡ Ok p → e + p ≤ 24
           admit_few p zp = omega (arith, me.few e ze, mp.few p zp, few_endpoints_lem xs, few_pdrs_lem xs, slot_counts.endpoints, slot_counts.pdrs)
 
-          pub admit_whole : (p : ℕ) → pdrs ≡ New p → Admitted s ws xs (New (e + p)) w₁
+          pub admit_whole : (p : ℕ) → pdrs ≡ Ok p → Admitted s ws xs (Ok (e + p)) w₁
           unfolding settings_of
           admit_whole p zp =
               let ne = new_is me e ze in
@@ -196,7 +197,7 @@ module _ (u : Unit) (ws xs : List ℕ) (h : Bool) (q : h ≡ head_sound xs) wher
               let map' : w₁ ≡ marks_after first ws (slot_holds xs) =
               pdrs_after_lem.words p zp ∙ sym (ap (marks_after first ws) (holds_are xs slot_counts) ∙ marks_both first ws (endpoints_of xs) (pdrs_of xs)) in
               record {
-                answer = sym (λ i. pick (yes' i) (New (count i)) Clash);
+                answer = sym (λ i. pick (yes' i) (Ok (count i)) refusal);
                 words = λ n z. map';
                 few = λ n z. let same : e + p ≡ n = cc in omega (arith, admit_few p zp);
               }

@@ -1,5 +1,8 @@
 -- The answers of the functions that test and mark one record, return by return: premises are what the code knows there.
 -- Assumes nothing.
+use Rattle.std.specs.Prelude.{Result, Ok}
+use Rattle.marking.specs.declared.Broken.{Broken}
+use Rattle.marking.specs.Refusal.{refusal}
 use Rattle.std.proofs.Common.{◌≡◌, ℕ, ◌+◌, ◌-◌, ◌*◌, ◌^◌, ◌<◌, ◌≤◌, Bool, true, false, not, T, eqb, List, [], length, get_or, take, drop, sym, refl, ap, ◌∙◌, arith, ne_eqb}
 use mathlib.Core.Option.{Option, none, some}
 use borrow.Author.Tests.{not-true, not-false}
@@ -17,34 +20,32 @@ use Rattle.unit.specs.declared.Settings.{Settings as Unit}
 use Rattle.unit.specs.Meaning.{settings_of}
 use Rattle.records.specs.Kept.{pdr_sound, endpoint_sound}
 use Rattle.records.proofs.Answers.{endpoint_pool, pdr_pool}
-use Rattle.marking.specs.declared.Marks.{Marks}
-use Rattle.marking.specs.declared.Marks.TheVariants.{Clash, New}
 use Rattle.marking.specs.Marking.{held_by, hold_at, endpoint_hold, step_of, words_of, Stepped}
 use Rattle.marking.proofs.Looking.{hold_of_lem, teid_of_lem}
 
 -- ---- a record that is refused, and one that is not
 
 module _ {sound : Bool} {first : ℕ} {ws : List ℕ} {earlier : List Holding} {hold : Option Holding} {ws' : List ℕ} where
-  refused : Clash ≡ pick sound (step_of first ws earlier hold) Clash → Stepped sound first ws earlier hold Clash ws'
+  refused : refusal ≡ pick sound (step_of first ws earlier hold) refusal → Stepped sound first ws earlier hold refusal ws'
   refused e = record { answer = e; words = λ n q. absurd (let z : ◌≡◌ {A = ℕ} 0 1 = cc in omega arith) }
 
-  step_broken : sound ≡ false → Stepped sound first ws earlier hold Clash ws'
+  step_broken : sound ≡ false → Stepped sound first ws earlier hold refusal ws'
   step_broken e = refused (sym (rw e))
 
-  step_clash : Clash ≡ step_of first ws earlier hold → Stepped sound first ws earlier hold Clash ws'
+  step_clash : refusal ≡ step_of first ws earlier hold → Stepped sound first ws earlier hold refusal ws'
   step_clash q = refused (either sound)
     where
-      either : (b : Bool) → Clash ≡ pick b (step_of first ws earlier hold) Clash
+      either : (b : Bool) → refusal ≡ pick b (step_of first ws earlier hold) refusal
       either true = q
       either false = refl
 
-  step_good : {r : Marks} → sound ≡ true → r ≡ step_of first ws earlier hold → ws' ≡ words_of first ws hold → Stepped sound first ws earlier hold r ws'
+  step_good : {r : Result ℕ Broken} → sound ≡ true → r ≡ step_of first ws earlier hold → ws' ≡ words_of first ws hold → Stepped sound first ws earlier hold r ws'
   step_good e q w = record { answer = q ∙ sym (rw e); words = λ n z. w }
 
 -- ---- an endpoint
 
 module _ (xs : List ℕ) (u : Unit) (ws : List ℕ) (b : Bool) (qb : b ≡ endpoint_sound (settings_of u) xs) where
-  pub endpoint_broken : not b ≡ true → Stepped (endpoint_sound (settings_of u) xs) u.first ws [] (endpoint_hold xs) Clash ws
+  pub endpoint_broken : not b ≡ true → Stepped (endpoint_sound (settings_of u) xs) u.first ws [] (endpoint_hold xs) refusal ws
   endpoint_broken h = step_broken (sym qb ∙ not-true b h)
 
   module _ (good : not b ≡ false) (t : ℕ) (q : t ≡ number (part endpoint_teid_at 4 xs)) where
@@ -54,14 +55,14 @@ module _ (xs : List ℕ) (u : Unit) (ws : List ℕ) (b : Bool) (qb : b ≡ endpo
         (omega (arith, f.0, q), omega (arith, f.0, f.1, q))
 
     module _ (m : Bool) (ws' : List ℕ) (qm : m ≡ marked ws (t - u.first)) (qw : ws' ≡ mark ws (t - u.first)) where
-      endpoint_step_is : step_of u.first ws [] (endpoint_hold xs) ≡ pick m Clash (New 1)
+      endpoint_step_is : step_of u.first ws [] (endpoint_hold xs) ≡ pick m refusal (Ok 1)
       unfolding step_of endpoint_hold endpoint_holding tunnel_holding view_endpoint endpoint_from tunnel_read fields_at collect
-      endpoint_step_is = λ i. pick ((ap (λ (n : ℕ). marked ws (n - u.first)) (sym q) ∙ sym qm) i) (pick (look_none (endpoint_holding (view_endpoint xs)) i) (New 0) Clash) (New 1)
+      endpoint_step_is = λ i. pick ((ap (λ (n : ℕ). marked ws (n - u.first)) (sym q) ∙ sym qm) i) (pick (look_none (endpoint_holding (view_endpoint xs)) i) (Ok 0) refusal) (Ok 1)
 
-      pub endpoint_met : m ≡ true → Stepped (endpoint_sound (settings_of u) xs) u.first ws [] (endpoint_hold xs) Clash ws'
+      pub endpoint_met : m ≡ true → Stepped (endpoint_sound (settings_of u) xs) u.first ws [] (endpoint_hold xs) refusal ws'
       endpoint_met h = step_clash (sym (endpoint_step_is ∙ rw h))
 
-      pub endpoint_new_lem : m ≡ false → Stepped (endpoint_sound (settings_of u) xs) u.first ws [] (endpoint_hold xs) (New 1) ws'
+      pub endpoint_new_lem : m ≡ false → Stepped (endpoint_sound (settings_of u) xs) u.first ws [] (endpoint_hold xs) (Ok 1) ws'
       unfolding words_of endpoint_hold endpoint_holding tunnel_holding view_endpoint endpoint_from tunnel_read fields_at
       endpoint_new_lem h = step_good (sym qb ∙ not-false b good) (sym (endpoint_step_is ∙ rw h)) (qw ∙ ap (λ (n : ℕ). mark ws (n - u.first)) q)
 
@@ -92,11 +93,11 @@ module _ (a : List ℕ) (i : ℕ) where
     sound_is : b ≡ sound_at
     sound_is = qb ∙ ap (pdr_sound (settings_of u) live) slot_is
 
-    pub pdr_broken : not b ≡ true → Stepped sound_at u.first ws earlier (hold_at a i) Clash ws
+    pub pdr_broken : not b ≡ true → Stepped sound_at u.first ws earlier (hold_at a i) refusal ws
     pdr_broken h = step_broken (sym sound_is ∙ not-true b h)
 
     module _ (good : not b ≡ false) where
-      pub pdr_none : (get_or (slot_at a i) match_at 0 ≡ 1 → ⊥) → Stepped sound_at u.first ws earlier (hold_at a i) (New 0) ws
+      pub pdr_none : (get_or (slot_at a i) match_at 0 ≡ 1 → ⊥) → Stepped sound_at u.first ws earlier (hold_at a i) (Ok 0) ws
       unfolding step_of words_of
       pdr_none h = step_good (sym sound_is ∙ not-false b good) (sym (rw (hold_absent h))) (sym (rw (hold_absent h)))
 
@@ -114,27 +115,27 @@ module _ (a : List ℕ) (i : ℕ) where
           unfolding words_of
           words_are = qw ∙ sym (rw (hold_there there, ← held))
 
-          step_is : step_of u.first ws earlier (hold_at a i) ≡ pick m (pick (joins earlier (held_by (slot_at a i))) (New 0) Clash) (New 1)
+          step_is : step_of u.first ws earlier (hold_at a i) ≡ pick m (pick (joins earlier (held_by (slot_at a i))) (Ok 0) refusal) (Ok 1)
           unfolding step_of
           step_is =
               ap (step_of u.first ws earlier) (hold_there there)
-              ∙ ap (λ (t : Bool). pick t (pick (joins earlier (held_by (slot_at a i))) (New 0) Clash) (New 1)) (ap (λ (n : ℕ). marked ws (n - u.first)) (sym held) ∙ sym qm)
+              ∙ ap (λ (t : Bool). pick t (pick (joins earlier (held_by (slot_at a i))) (Ok 0) refusal) (Ok 1)) (ap (λ (n : ℕ). marked ws (n - u.first)) (sym held) ∙ sym qm)
 
-          pub pdr_new_lem : not m ≡ true → Stepped sound_at u.first ws earlier (hold_at a i) (New 1) ws'
+          pub pdr_new_lem : not m ≡ true → Stepped sound_at u.first ws earlier (hold_at a i) (Ok 1) ws'
           pdr_new_lem h = step_good (sym sound_is ∙ not-false b good) (sym (step_is ∙ rw (not-true m h))) words_are
 
           module _ (h : not m ≡ false) (j : Bool) (qj : j ≡ joins earlier (held_by (slot_at a i))) where
-            step_met : step_of u.first ws earlier (hold_at a i) ≡ pick j (New 0) Clash
-            step_met = step_is ∙ (λ e. pick (not-false m h e) (pick (sym qj e) (New 0) Clash) (New 1))
+            step_met : step_of u.first ws earlier (hold_at a i) ≡ pick j (Ok 0) refusal
+            step_met = step_is ∙ (λ e. pick (not-false m h e) (pick (sym qj e) (Ok 0) refusal) (Ok 1))
 
-            pub pdr_shared : j ≡ true → Stepped sound_at u.first ws earlier (hold_at a i) (New 0) ws'
+            pub pdr_shared : j ≡ true → Stepped sound_at u.first ws earlier (hold_at a i) (Ok 0) ws'
             pdr_shared k = step_good (sym sound_is ∙ not-false b good) (sym (step_met ∙ rw k)) words_are
 
-            pub pdr_met : j ≡ false → Stepped sound_at u.first ws earlier (hold_at a i) Clash ws'
+            pub pdr_met : j ≡ false → Stepped sound_at u.first ws earlier (hold_at a i) refusal ws'
             pdr_met k = step_clash (sym (step_met ∙ rw k))
 
 -- an endpoint as the code of a walk has it
-pub endpoint_at : (u : Unit) (ws a : List ℕ) (i : ℕ) (r : Marks) (ws' : List ℕ)
+pub endpoint_at : (u : Unit) (ws a : List ℕ) (i : ℕ) (r : Result ℕ Broken) (ws' : List ℕ)
     → let xs = take (i * endpoint_width + endpoint_width - i * endpoint_width) (drop (i * endpoint_width) a) in Stepped (endpoint_sound (settings_of u) xs) u.first ws [] (endpoint_hold xs) r ws'
     → Stepped (endpoint_sound (settings_of u) (part (i * endpoint_width) endpoint_width a)) u.first ws [] (endpoint_hold (part (i * endpoint_width) endpoint_width a)) r ws'
 endpoint_at u ws a i r ws' t = let span : i * endpoint_width + endpoint_width - i * endpoint_width ≡ endpoint_width = omega arith in rw span at t

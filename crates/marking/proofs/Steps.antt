@@ -1,5 +1,8 @@
 -- The loops that mark holds: what is left gives the same answer, the same map and the same number of new marks.
 -- Assumes nothing.
+use Rattle.std.specs.Prelude.{Result, Ok}
+use Rattle.marking.specs.declared.Broken.{Broken}
+use Rattle.marking.specs.Refusal.{refusal}
 use Rattle.std.proofs.Common.{◌≡◌, ℕ, ◌+◌, ◌-◌, ◌≤◌, Bool, true, false, not, ◌&&◌, ◌||◌, List, [], ◌∷◌, ◌++◌, map, length, sym, refl, ap, ◌∙◌, subst, zero-le, le_trans, le_of_eq, add-zero, add_assoc, zero-add, arith, lit≤}
 use mathlib.Core.Option.{Option, none, some}
 use Rattle.octets.specs.Choice.{pick, flag, cons_option}
@@ -12,7 +15,6 @@ use Rattle.pool.proofs.Marks.{length_mark}
 use Rattle.marking.specs.Walk.{joins, session_marks}
 use Rattle.marking.proofs.RecordWalk.{marks_nil, record_none, record_some, look_none}
 use Rattle.marking.proofs.SessionWalk.{endpoint_step}
-use Rattle.marking.specs.declared.Marks.TheVariants.{Clash, New}
 use Rattle.marking.specs.Marking.{marks_after, new_after, step_of, words_of, walked, Marked}
 
 -- ---- one hold more
@@ -31,26 +33,26 @@ flag_few true = lit≤ tt
 flag_few false = lit≤ tt
 
 -- what an answer of one step says
-step_new : (first : ℕ) (ws : List ℕ) (earlier : List Holding) (h : Holding) (k : ℕ) → step_of first ws earlier (some h) ≡ New k
+step_new : (first : ℕ) (ws : List ℕ) (earlier : List Holding) (h : Holding) (k : ℕ) → step_of first ws earlier (some h) ≡ Ok k
     → ((not (marked ws (h.teid - first)) || joins earlier h) ≡ true) × (k ≡ flag (not (marked ws (h.teid - first))))
 unfolding step_of
 step_new first ws earlier h k e = go (marked ws (h.teid - first)) (joins earlier h) e
   where
-    go : (b j : Bool) → pick b (pick j (New 0) Clash) (New 1) ≡ New k → ((not b || j) ≡ true) × (k ≡ flag (not b))
+    go : (b j : Bool) → pick {X = Result ℕ Broken} b (pick j (Ok 0) refusal) (Ok 1) ≡ Ok k → ((not b || j) ≡ true) × (k ≡ flag (not b))
     go true true e = (refl, (cc))
     go true false e = absurd (let z : ◌≡◌ {A = ℕ} 0 1 = cc in omega arith)
     go false j e = (refl, (cc))
 
-step_bad : (first : ℕ) (ws : List ℕ) (earlier : List Holding) (h : Holding) → step_of first ws earlier (some h) ≡ Clash → (not (marked ws (h.teid - first)) || joins earlier h) ≡ false
+step_bad : (first : ℕ) (ws : List ℕ) (earlier : List Holding) (h : Holding) → step_of first ws earlier (some h) ≡ refusal → (not (marked ws (h.teid - first)) || joins earlier h) ≡ false
 unfolding step_of
 step_bad first ws earlier h e = go (marked ws (h.teid - first)) (joins earlier h) e
   where
-    go : (b j : Bool) → pick b (pick j (New 0) Clash) (New 1) ≡ Clash → (not b || j) ≡ false
+    go : (b j : Bool) → pick {X = Result ℕ Broken} b (pick j (Ok 0) refusal) (Ok 1) ≡ refusal → (not b || j) ≡ false
     go true true e = absurd (let z : ◌≡◌ {A = ℕ} 0 1 = cc in omega arith)
     go true false e = refl
     go false j e = absurd (let z : ◌≡◌ {A = ℕ} 0 1 = cc in omega arith)
 
-pub step_few : (first : ℕ) (ws : List ℕ) (earlier : List Holding) (o : Option Holding) (k : ℕ) → step_of first ws earlier o ≡ New k → k ≤ 1
+pub step_few : (first : ℕ) (ws : List ℕ) (earlier : List Holding) (o : Option Holding) (k : ℕ) → step_of first ws earlier o ≡ Ok k → k ≤ 1
 unfolding step_of
 step_few first ws earlier none k e = let z : k ≡ 0 = cc in omega arith
 step_few first ws earlier (some h) k e = let t = step_new first ws earlier h k e in omega (arith, t.1, flag_few (not (marked ws (h.teid - first))))
@@ -103,12 +105,12 @@ module _ {first : ℕ} {ws₀ : List ℕ} {hs : List Holding} where
   marking_bad {ws} {earlier} {left} h earlier' test m step t =
       sym m.keeps ∙ step ∙ ap (λ (b : Bool). b && session_marks first (mark ws (h.teid - first)) earlier' left) t
 
-  pub marking_end : {ws : List ℕ} {earlier : List Holding} {new : ℕ} (sound : Bool) → sound ≡ true → Marking first ws₀ hs ws earlier [] new → Marked sound first ws₀ hs (New new) ws
+  pub marking_end : {ws : List ℕ} {earlier : List Holding} {new : ℕ} (sound : Bool) → sound ≡ true → Marking first ws₀ hs ws earlier [] new → Marked sound first ws₀ hs (Ok new) ws
   unfolding walked marks_after new_after marks new_marks offsets
   marking_end {ws} {earlier} {new} sound e m =
       let yes' : session_marks first ws₀ [] hs ≡ true = sym m.keeps ∙ marks_nil first ws earlier in
       let few : new ≤ length hs = le_trans (le_of_eq (sym (add-zero new) ∙ m.count)) (new_few first ws₀ hs) in
-      record { answer = sym (rw (e, yes', ← m.count) (ap New (add-zero new))); words = λ n e. m.words; few = λ n e. let same : new ≡ n = cc in omega arith }
+      record { answer = sym (rw (e, yes', ← m.count) (ap Ok (add-zero new))); words = λ n e. m.words; few = λ n e. let same : new ≡ n = cc in omega arith }
 
   -- ---- endpoints: each has to be the first on its TEID
 
@@ -120,14 +122,14 @@ module _ {first : ℕ} {ws₀ : List ℕ} {hs : List Holding} where
     unfolding collect
     first_on = ap (λ (j : Bool). not (marked ws offset) || j) (look_none (endpoint_holding e)) ∙ or-false (not (marked ws offset))
 
-    pub endpoint_turn : (k : ℕ) → step_of first ws [] (some (endpoint_holding e)) ≡ New k
+    pub endpoint_turn : (k : ℕ) → step_of first ws [] (some (endpoint_holding e)) ≡ Ok k
         → Marking first ws₀ hs (words_of first ws (some (endpoint_holding e))) [] (map endpoint_holding es) (new + k)
     unfolding endpoint_holding tunnel_holding words_of
     endpoint_turn k q =
         let t = step_new first ws [] (endpoint_holding e) k q in
         marking_turn (endpoint_holding e) [] (not (marked ws offset)) k m (endpoint_step first ws e es) (sym first_on ∙ t.0) t.1
 
-    pub endpoint_clash : step_of first ws [] (some (endpoint_holding e)) ≡ Clash → session_marks first ws₀ [] hs ≡ false
+    pub endpoint_clash : step_of first ws [] (some (endpoint_holding e)) ≡ refusal → session_marks first ws₀ [] hs ≡ false
     unfolding endpoint_holding tunnel_holding
     endpoint_clash q =
         marking_bad (endpoint_holding e) [] (not (marked ws offset)) m (endpoint_step first ws e es) (sym first_on ∙ step_bad first ws [] (endpoint_holding e) q)
@@ -136,7 +138,7 @@ module _ {first : ℕ} {ws₀ : List ℕ} {hs : List Holding} where
 
   module _ {ws : List ℕ} {new : ℕ} (done : List Pdr) (a : Pdr) (left : List Pdr)
       (m : Marking first ws₀ hs ws (collect pdr_holding done) (collect pdr_holding (a ∷ left)) new) where
-    turn_with : (o : Option Holding) → pdr_holding a ≡ o → (k : ℕ) → step_of first ws (collect pdr_holding done) o ≡ New k
+    turn_with : (o : Option Holding) → pdr_holding a ≡ o → (k : ℕ) → step_of first ws (collect pdr_holding done) o ≡ Ok k
         → Marking first ws₀ hs (words_of first ws o) (collect pdr_holding (done ++ a ∷ [])) (collect pdr_holding left) (new + k)
     unfolding step_of words_of
     turn_with none e k q =
@@ -155,11 +157,11 @@ module _ {first : ℕ} {ws₀ : List ℕ} {hs : List Holding} where
         (subst (λ (l : List Holding). Marking first ws₀ hs ws (collect pdr_holding done) l new) same m)
         (ap (session_marks first ws (collect pdr_holding done)) (sym same) ∙ record_some pdr_holding first ws done a h left e) t.0 t.1
 
-    pub pdr_turn : (k : ℕ) → step_of first ws (collect pdr_holding done) (pdr_holding a) ≡ New k
+    pub pdr_turn : (k : ℕ) → step_of first ws (collect pdr_holding done) (pdr_holding a) ≡ Ok k
         → Marking first ws₀ hs (words_of first ws (pdr_holding a)) (collect pdr_holding (done ++ a ∷ [])) (collect pdr_holding left) (new + k)
     pdr_turn k q = turn_with (pdr_holding a) refl k q
 
-    clash_with : (o : Option Holding) → pdr_holding a ≡ o → step_of first ws (collect pdr_holding done) o ≡ Clash → session_marks first ws₀ [] hs ≡ false
+    clash_with : (o : Option Holding) → pdr_holding a ≡ o → step_of first ws (collect pdr_holding done) o ≡ refusal → session_marks first ws₀ [] hs ≡ false
     unfolding step_of
     clash_with none e q = absurd (let z : ◌≡◌ {A = ℕ} 0 1 = cc in omega arith)
     clash_with (some h) e q =
@@ -168,5 +170,5 @@ module _ {first : ℕ} {ws₀ : List ℕ} {hs : List Holding} where
         (subst (λ (l : List Holding). Marking first ws₀ hs ws (collect pdr_holding done) l new) same m)
         (ap (session_marks first ws (collect pdr_holding done)) (sym same) ∙ record_some pdr_holding first ws done a h left e) (step_bad first ws (collect pdr_holding done) h q)
 
-    pub pdr_clash : step_of first ws (collect pdr_holding done) (pdr_holding a) ≡ Clash → session_marks first ws₀ [] hs ≡ false
+    pub pdr_clash : step_of first ws (collect pdr_holding done) (pdr_holding a) ≡ refusal → session_marks first ws₀ [] hs ≡ false
     pdr_clash q = clash_with (pdr_holding a) refl q

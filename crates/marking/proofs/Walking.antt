@@ -1,6 +1,9 @@
 -- One walk over an area of records: each is tested, its key compared, and its TEID marked. What is left gives the same answer, the same
 -- map and the same number of new marks.
 -- Assumes nothing.
+use Rattle.std.specs.Prelude.{Result, Ok}
+use Rattle.marking.specs.declared.Broken.{Broken}
+use Rattle.marking.specs.Refusal.{refusal}
 use Rattle.std.proofs.Common.{◌≡◌, ℕ, ◌+◌, ◌-◌, ◌*◌, ◌<◌, ◌≤◌, Bool, true, false, not, ◌&&◌, List, [], ◌∷◌, ◌++◌, map, length, drop, sym, refl, ap, ◌∙◌, subst, zero-le, add-one, arith}
 use mathlib.Core.Option.{Option}
 use borrow.Author.Tests.{not-true, not-false}
@@ -13,31 +16,29 @@ use Rattle.rules.specs.Layout.{view_pdr, view_endpoint, pdr_width, endpoint_widt
 use Rattle.marking.specs.Walk.{session_marks}
 use Rattle.records.specs.Slot.{area_sound}
 use Rattle.records.proofs.Turns.{slices_more, Rows, rows_none, rows_low, rows_bad, rows_more, rows_room}
-use Rattle.marking.specs.declared.Marks.{Marks}
-use Rattle.marking.specs.declared.Marks.TheVariants.{Clash, New}
 use Rattle.marking.specs.Marking.{hold_at, endpoint_hold, pdr_holds, endpoint_holds, step_of, words_of, Stepped, walked, Marked}
 use Rattle.marking.proofs.Looking.{slices_snoc, map_snoc}
 use Rattle.marking.proofs.Steps.{Marking, marking_start, marking_end, endpoint_turn, endpoint_clash, pdr_turn, pdr_clash, step_few}
 
 -- ---- what an answer for one record says
 
-module _ {sound : Bool} {first : ℕ} {ws : List ℕ} {earlier : List Holding} {hold : Option Holding} {r : Marks} {ws' : List ℕ} (t : Stepped sound first ws earlier hold r ws') where
-  stepped_new : (k : ℕ) → r ≡ New k → (sound ≡ true) × (step_of first ws earlier hold ≡ New k)
+module _ {sound : Bool} {first : ℕ} {ws : List ℕ} {earlier : List Holding} {hold : Option Holding} {r : Result ℕ Broken} {ws' : List ℕ} (t : Stepped sound first ws earlier hold r ws') where
+  stepped_new : (k : ℕ) → r ≡ Ok k → (sound ≡ true) × (step_of first ws earlier hold ≡ Ok k)
   stepped_new k e = go sound (sym t.answer ∙ e)
     where
-      go : (b : Bool) → pick b (step_of first ws earlier hold) Clash ≡ New k → (b ≡ true) × (step_of first ws earlier hold ≡ New k)
+      go : (b : Bool) → pick b (step_of first ws earlier hold) refusal ≡ Ok k → (b ≡ true) × (step_of first ws earlier hold ≡ Ok k)
       go true q = (refl, q)
       go false q = absurd (let z : ◌≡◌ {A = ℕ} 0 1 = cc in omega arith)
 
-  stepped_clash : {X : Type 0} → r ≡ Clash → (sound ≡ false → X) → (step_of first ws earlier hold ≡ Clash → X) → X
+  stepped_clash : {X : Type 0} → r ≡ refusal → (sound ≡ false → X) → (step_of first ws earlier hold ≡ refusal → X) → X
   stepped_clash {X} e f g = go sound f (sym t.answer ∙ e)
     where
-      go : (b : Bool) → (b ≡ false → X) → pick b (step_of first ws earlier hold) Clash ≡ Clash → X
+      go : (b : Bool) → (b ≡ false → X) → pick b (step_of first ws earlier hold) refusal ≡ refusal → X
       go true f q = g q
       go false f q = f refl
 
 -- a walk that is refused
-refused : {sound : Bool} {first : ℕ} {ws : List ℕ} {hs : List Holding} (ws' : List ℕ) → (sound && session_marks first ws [] hs) ≡ false → Marked sound first ws hs Clash ws'
+refused : {sound : Bool} {first : ℕ} {ws : List ℕ} {hs : List Holding} (ws' : List ℕ) → (sound && session_marks first ws [] hs) ≡ false → Marked sound first ws hs refusal ws'
 unfolding walked
 refused ws' e = record {
   answer = sym (rw e);
@@ -50,9 +51,9 @@ refused ws' e = record {
 -- The holds of an area by its places: those before a place, those from it on, and its own.
 pub record Places (first : ℕ) (ws₀ : List ℕ) (hs : List Holding) (n : ℕ) (earlier left : ℕ → List Holding) (hold : ℕ → Option Holding) : Type 0 where
   pub start : Marking first ws₀ hs ws₀ (earlier 0) (left 0) 0
-  pub turn : {ws : List ℕ} {i new : ℕ} → i < n → Marking first ws₀ hs ws (earlier i) (left i) new → (k : ℕ) → step_of first ws (earlier i) (hold i) ≡ New k
+  pub turn : {ws : List ℕ} {i new : ℕ} → i < n → Marking first ws₀ hs ws (earlier i) (left i) new → (k : ℕ) → step_of first ws (earlier i) (hold i) ≡ Ok k
       → Marking first ws₀ hs (words_of first ws (hold i)) (earlier (i + 1)) (left (i + 1)) (new + k)
-  pub clash : {ws : List ℕ} {i new : ℕ} → i < n → Marking first ws₀ hs ws (earlier i) (left i) new → step_of first ws (earlier i) (hold i) ≡ Clash → session_marks first ws₀ [] hs ≡ false
+  pub clash : {ws : List ℕ} {i new : ℕ} → i < n → Marking first ws₀ hs ws (earlier i) (left i) new → step_of first ws (earlier i) (hold i) ≡ refusal → session_marks first ws₀ [] hs ≡ false
   pub end : (i : ℕ) → n ≤ i → left i ≡ []
 
 module _ (p : List ℕ → Bool) (w k : ℕ) (a : List ℕ) (n first : ℕ) (ws₀ : List ℕ) (hs : List Holding) (earlier left : ℕ → List Holding) where
@@ -67,21 +68,21 @@ module _ (p : List ℕ → Bool) (w k : ℕ) (a : List ℕ) {n first : ℕ} {ws�
   abbrev pub Here : List ℕ → ℕ → ℕ → ℕ → Type 0
   Here ws i next new = Walk p w k a n first ws₀ hs earlier left ws i next new
 
-  abbrev pub Answer : Marks → List ℕ → Type 0
+  abbrev pub Answer : Result ℕ Broken → List ℕ → Type 0
   Answer r ws = Marked (area_sound p w k n a) first ws₀ hs r ws
 
   pub walk_none : Here ws₀ 0 0 0
   walk_none = record { few = zero-le; rows = rows_none p w k a n; state = ps.start }
 
-  broken : (ws' : List ℕ) → area_sound p w k n a ≡ false → Answer Clash ws'
+  broken : (ws' : List ℕ) → area_sound p w k n a ≡ false → Answer refusal ws'
   broken ws' e = refused ws' (rw e)
 
   module _ {ws : List ℕ} {i next new : ℕ} (r : Here ws i next new) (h : i < n) where
     module _ (narrow : k ≤ w) (key : ℕ) (q : key ≡ number (part (i * w) k a)) where
-      pub walk_low : (ws' : List ℕ) → key < next → Answer Clash ws'
+      pub walk_low : (ws' : List ℕ) → key < next → Answer refusal ws'
       walk_low ws' l = broken ws' (rows_low p w k a n r.rows h narrow key q l)
 
-      pub walk_more : (m : Marks) (ws' : List ℕ) → Stepped (p (part (i * w) w a)) first ws (earlier i) (hold i) m ws' → next ≤ key → (j : ℕ) → m ≡ New j → Here ws' (i + 1) (key + 1) (new + j)
+      pub walk_more : (m : Result ℕ Broken) (ws' : List ℕ) → Stepped (p (part (i * w) w a)) first ws (earlier i) (hold i) m ws' → next ≤ key → (j : ℕ) → m ≡ Ok j → Here ws' (i + 1) (key + 1) (new + j)
       walk_more m ws' t l j e =
           let s = stepped_new t j e in
           record {
@@ -90,17 +91,17 @@ module _ (p : List ℕ → Bool) (w k : ℕ) (a : List ℕ) {n first : ℕ} {ws�
             state = rw (t.words j e) (ps.turn h r.state j s.1);
           }
 
-    pub walk_clash : (m : Marks) (ws' : List ℕ) → Stepped (p (part (i * w) w a)) first ws (earlier i) (hold i) m ws' → m ≡ Clash → (v : List ℕ) → Answer Clash v
+    pub walk_clash : (m : Result ℕ Broken) (ws' : List ℕ) → Stepped (p (part (i * w) w a)) first ws (earlier i) (hold i) m ws' → m ≡ refusal → (v : List ℕ) → Answer refusal v
     walk_clash m ws' t e v =
         stepped_clash t e
         (λ f. broken v (rows_bad p w k a n r.rows h f))
         (λ f. refused v (rw (ps.clash h r.state f) (and-false (area_sound p w k n a))))
 
   module _ {ws : List ℕ} {i next new : ℕ} (r : Here ws i next new) (h : n ≤ i) (long : n * w ≤ length a) (z : Bool) (q : z ≡ all_zero (part (n * w) (length a - n * w) a)) where
-    pub walk_room : (ws' : List ℕ) → not z ≡ true → Answer Clash ws'
+    pub walk_room : (ws' : List ℕ) → not z ≡ true → Answer refusal ws'
     walk_room ws' e = broken ws' (sym (rows_room p w k a n r.rows h long z q) ∙ not-true z e)
 
-    pub walk_all : not z ≡ false → Answer (New new) ws
+    pub walk_all : not z ≡ false → Answer (Ok new) ws
     walk_all e =
         marking_end (area_sound p w k n a) (sym (rows_room p w k a n r.rows h long z q) ∙ not-false z e)
         (subst (λ (l : List Holding). Marking first ws₀ hs ws (earlier i) l new) (ps.end i h) r.state)
@@ -175,7 +176,7 @@ module _ (first : ℕ) (ws₀ a : List ℕ) (n : ℕ) where
       start : Marking first ws₀ (pdr_holds n a) ws₀ (pdrs_to 0) (pdrs_from 0) 0
       start = unfold pdr_holds slices collect in (let e : n - 0 ≡ n = omega arith in rw e marking_start)
 
-      turn : {ws : List ℕ} {i new : ℕ} → i < n → Marking first ws₀ (pdr_holds n a) ws (pdrs_to i) (pdrs_from i) new → (k : ℕ) → step_of first ws (pdrs_to i) (hold_at a i) ≡ New k
+      turn : {ws : List ℕ} {i new : ℕ} → i < n → Marking first ws₀ (pdr_holds n a) ws (pdrs_to i) (pdrs_from i) new → (k : ℕ) → step_of first ws (pdrs_to i) (hold_at a i) ≡ Ok k
           → Marking first ws₀ (pdr_holds n a) (words_of first ws (hold_at a i)) (pdrs_to (i + 1)) (pdrs_from (i + 1)) (new + k)
       turn {ws} {i} {new} h m k q =
           unfold hold_at pdr_holds in

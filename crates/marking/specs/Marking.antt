@@ -1,6 +1,11 @@
 -- Who holds which TEID by the octets of slots, and the walk that marks TEIDs and addresses (01: "a TEID is held by one endpoint, or by PDRs of one session
 -- with equal family flags and source interface").
 -- Assumes nothing.
+use Rattle.std.specs.Prelude.{Result, Ok}
+use Rattle.marking.specs.declared.Broken.{Broken}
+use Rattle.marking.specs.declared.New.{New}
+use Rattle.marking.specs.declared.Tally.{Tally}
+use Rattle.marking.specs.Refusal.{refusal}
 use Rattle.std.specs.Prelude.{◌≡◌, ℕ, ◌+◌, ◌-◌, ◌*◌, ◌%◌, ◌≤◌, Bool, true, not, ◌&&◌, List, [], ◌∷◌, map, length, ◌==◌}
 use Rattle.std.proofs.Math.Option.{Option, none, some}
 use Rattle.octets.specs.Choice.{pick, flag}
@@ -13,12 +18,6 @@ use Rattle.pool.specs.Map.{mark, marks, new_marks, offsets}
 use Rattle.marking.specs.Walk.{joins, session_marks}
 use Rattle.records.specs.Slot.{slot_sound}
 use Rattle.marking.specs.Offsets.{held_offsets, Agrees}
-use Rattle.marking.specs.declared.Marks.{Marks}
-use Rattle.marking.specs.declared.Marks.TheVariants.{Clash, New}
-use Rattle.marking.specs.declared.Seen.{Seen}
-use Rattle.marking.specs.declared.Seen.TheVariants.{Broken, Held}
-use Rattle.marking.specs.declared.Walked.{Walked}
-use Rattle.marking.specs.declared.Walked.TheVariants as walk
 
 -- ---- one PDR
 
@@ -63,28 +62,28 @@ unfoldable pub new_after : ℕ → List ℕ → List Holding → ℕ
 new_after first ws hs = new_marks ws (offsets first (map teid_of hs))
 
 -- one record's hold, if it has one, after the session's earlier ones
-unfoldable pub step_of : ℕ → List ℕ → List Holding → Option Holding → Marks
-step_of first ws earlier none = New 0
-step_of first ws earlier (some h) = pick (marked ws (h.teid - first)) (pick (joins earlier h) (New 0) Clash) (New 1)
+unfoldable pub step_of : ℕ → List ℕ → List Holding → Option Holding → Result ℕ Broken
+step_of first ws earlier none = Ok 0
+step_of first ws earlier (some h) = pick (marked ws (h.teid - first)) (pick (joins earlier h) (Ok 0) refusal) (Ok 1)
 
 unfoldable pub words_of : ℕ → List ℕ → Option Holding → List ℕ
 words_of first ws none = ws
 words_of first ws (some h) = mark ws (h.teid - first)
 
 -- a record that is sound or not, and its hold: the map is what it should be where the record is not refused
-pub record Stepped (sound : Bool) (first : ℕ) (ws : List ℕ) (earlier : List Holding) (hold : Option Holding) (r : Marks) (ws' : List ℕ) : Type 0 where
-  pub answer : r ≡ pick sound (step_of first ws earlier hold) Clash
-  pub words : (n : ℕ) → r ≡ New n → ws' ≡ words_of first ws hold
+pub record Stepped (sound : Bool) (first : ℕ) (ws : List ℕ) (earlier : List Holding) (hold : Option Holding) (r : Result ℕ Broken) (ws' : List ℕ) : Type 0 where
+  pub answer : r ≡ pick sound (step_of first ws earlier hold) refusal
+  pub words : (n : ℕ) → r ≡ Ok n → ws' ≡ words_of first ws hold
 
 -- the holds of an area of one session that is sound or not: refused, or marked
-unfoldable pub walked : Bool → ℕ → List ℕ → List Holding → Marks
-walked sound first ws hs = pick (sound && session_marks first ws [] hs) (New (new_after first ws hs)) Clash
+unfoldable pub walked : Bool → ℕ → List ℕ → List Holding → Result ℕ Broken
+walked sound first ws hs = pick (sound && session_marks first ws [] hs) (Ok (new_after first ws hs)) refusal
 
 -- the map is what it should be where the walk is not refused
-pub record Marked (sound : Bool) (first : ℕ) (ws : List ℕ) (hs : List Holding) (r : Marks) (ws' : List ℕ) : Type 0 where
+pub record Marked (sound : Bool) (first : ℕ) (ws : List ℕ) (hs : List Holding) (r : Result ℕ Broken) (ws' : List ℕ) : Type 0 where
   pub answer : r ≡ walked sound first ws hs
-  pub words : (n : ℕ) → r ≡ New n → ws' ≡ marks_after first ws hs
-  pub few : (n : ℕ) → r ≡ New n → n ≤ length hs
+  pub words : (n : ℕ) → r ≡ Ok n → ws' ≡ marks_after first ws hs
+  pub few : (n : ℕ) → r ≡ Ok n → n ≤ length hs
 
 -- ---- slots
 
@@ -92,10 +91,10 @@ pub record Marked (sound : Bool) (first : ℕ) (ws : List ℕ) (hs : List Holdin
 unfoldable pub slot_keeps : Settings → List ℕ → List ℕ → Bool
 slot_keeps s ws xs = slot_sound s xs && session_marks s.first ws [] (slot_holds xs)
 
-pub record Admitted (s : Settings) (ws xs : List ℕ) (r : Marks) (ws' : List ℕ) : Type 0 where
-  pub answer : r ≡ pick (slot_keeps s ws xs) (New (new_after s.first ws (slot_holds xs))) Clash
-  pub words : (n : ℕ) → r ≡ New n → ws' ≡ marks_after s.first ws (slot_holds xs)
-  pub few : (n : ℕ) → r ≡ New n → n ≤ 24
+pub record Admitted (s : Settings) (ws xs : List ℕ) (r : Result ℕ Broken) (ws' : List ℕ) : Type 0 where
+  pub answer : r ≡ pick (slot_keeps s ws xs) (Ok (new_after s.first ws (slot_holds xs))) refusal
+  pub words : (n : ℕ) → r ≡ Ok n → ws' ≡ marks_after s.first ws (slot_holds xs)
+  pub few : (n : ℕ) → r ≡ Ok n → n ≤ 24
 
 -- ---- a slot with its addresses (02 (v))
 
@@ -107,16 +106,16 @@ slot_teids s xs = offsets s.first (map teid_of (slot_holds xs))
 unfoldable pub slot_free : Settings → List ℕ → List ℕ → Bool
 slot_free s as' xs = not (any (marked as') (held_offsets s xs))
 
-pub record SlotEntered (s : Settings) (ws as' xs : List ℕ) (r : Seen) (ws₁ as₁ : List ℕ) : Type 0 where
-  pub answer : r ≡ pick (slot_keeps s ws xs && slot_free s as' xs) (Held (new_marks ws (slot_teids s xs)) (new_marks as' (held_offsets s xs))) Broken
-  pub words : (n k : ℕ) → r ≡ Held n k → ws₁ ≡ marks ws (slot_teids s xs)
-  pub addresses : (n k : ℕ) → r ≡ Held n k → as₁ ≡ marks as' (held_offsets s xs)
-  pub few : (n k : ℕ) → r ≡ Held n k → (n ≤ 24) × (k ≤ 24)
+pub record SlotEntered (s : Settings) (ws as' xs : List ℕ) (r : Result New Broken) (ws₁ as₁ : List ℕ) : Type 0 where
+  pub answer : r ≡ pick (slot_keeps s ws xs && slot_free s as' xs) (Ok (record { teids = new_marks ws (slot_teids s xs); addresses = new_marks as' (held_offsets s xs) })) refusal
+  pub words : (new : New) → r ≡ Ok new → ws₁ ≡ marks ws (slot_teids s xs)
+  pub addresses : (new : New) → r ≡ Ok new → as₁ ≡ marks as' (held_offsets s xs)
+  pub few : (new : New) → r ≡ Ok new → (new.teids ≤ 24) × (new.addresses ≤ 24)
 
 -- and the holders of addresses follow
-pub record SessionClaimed (s : Settings) (turn : ℕ) (ws as' xs : List ℕ) (r : Seen) (ws₁ hs₁ as₁ : List ℕ) : Type 0 where
+pub record SessionClaimed (s : Settings) (turn : ℕ) (ws as' xs : List ℕ) (r : Result New Broken) (ws₁ hs₁ as₁ : List ℕ) : Type 0 where
   pub entered : SlotEntered s ws as' xs r ws₁ as₁
-  pub agrees : (n k : ℕ) → r ≡ Held n k → Agrees turn s.address_count hs₁ as₁
+  pub agrees : (new : New) → r ≡ Ok new → Agrees turn s.address_count hs₁ as₁
 
 -- ---- the slots of a table, in turn
 
@@ -147,18 +146,18 @@ unfoldable pub slots_by : ℕ → List (List ℕ) → ℕ
 slots_by who [] = 0
 slots_by who (xs ∷ xss) = flag (octet_at xs 0 == who) + slots_by who xss
 
-pub record AllAdmitted (s : Settings) (ws as' : List ℕ) (xss : List (List ℕ)) (r : Walked) (ws₁ as₁ : List ℕ) : Type 0 where
-  pub answer : r ≡ pick (slots_keep s ws xss && slots_free s as' xss) (walk.Held (new_by s 1 ws xss) (new_by s 2 ws xss) (slots_by 1 xss) (new_marks as' (addresses_in s xss))) walk.Broken
-  pub words : (p q f k : ℕ) → r ≡ walk.Held p q f k → ws₁ ≡ marks ws (teids_in s xss)
-  pub addresses : (p q f k : ℕ) → r ≡ walk.Held p q f k → as₁ ≡ marks as' (addresses_in s xss)
+pub record AllAdmitted (s : Settings) (ws as' : List ℕ) (xss : List (List ℕ)) (r : Result Tally Broken) (ws₁ as₁ : List ℕ) : Type 0 where
+  pub answer : r ≡ pick (slots_keep s ws xss && slots_free s as' xss) (Ok (record { one = new_by s 1 ws xss; two = new_by s 2 ws xss; first = slots_by 1 xss; taken = new_marks as' (addresses_in s xss) })) refusal
+  pub words : (c : Tally) → r ≡ Ok c → ws₁ ≡ marks ws (teids_in s xss)
+  pub addresses : (c : Tally) → r ≡ Ok c → as₁ ≡ marks as' (addresses_in s xss)
 
 -- numbers that another session can be added to
-pub record Tallied (one two first taken j k peer : ℕ) : Type 0 where
-  pub ones : one ≤ 6144
-  pub twos : two ≤ 6144
-  pub firsts : first ≤ 256
-  pub addresses : taken ≤ 6144
-  pub teids : j ≤ 24
-  pub new : k ≤ 24
+pub record Tallied (c : Tally) (fresh : New) (peer : ℕ) : Type 0 where
+  pub ones : c.one ≤ 6144
+  pub twos : c.two ≤ 6144
+  pub firsts : c.first ≤ 256
+  pub addresses : c.taken ≤ 6144
+  pub teids : fresh.teids ≤ 24
+  pub new : fresh.addresses ≤ 24
   pub least : 1 ≤ peer
   pub most : peer ≤ 2

@@ -1,6 +1,9 @@
 -- Which addresses of the pool stand in the octets of a session's slot, and the walk that marks them (02 (v)). An offset is an address less the
 -- pool's first.
 -- Assumes nothing.
+use Rattle.std.specs.Prelude.{Result, Ok}
+use Rattle.marking.specs.declared.Broken.{Broken}
+use Rattle.marking.specs.Refusal.{refusal}
 use Rattle.std.specs.Prelude.{◌≡◌, ℕ, ◌+◌, ◌-◌, ◌*◌, ◌<◌, ◌≤◌, Bool, not, ◌&&◌, List, ◌++◌, length, ◌==◌, nat_lt, slice_index, slice_index_or, slice_set}
 use Rattle.std.proofs.Math.Option.{Option, none, some}
 use Rattle.octets.specs.Choice.{pick, flag}
@@ -13,8 +16,6 @@ use Rattle.rules.specs.Sound.{marked}
 use Rattle.pool.specs.Map.{mark, marks, new_marks}
 use Rattle.marking.specs.Walk.{address_offsets}
 use Rattle.records.specs.Slot.{pdr_area, endpoint_area}
-use Rattle.marking.specs.declared.addresses.Met.{Met}
-use Rattle.marking.specs.declared.addresses.Met.TheVariants.{Clash, New}
 
 -- ---- by octets
 
@@ -67,18 +68,18 @@ pub record Claimable (p : ℕ) (hs ws : List ℕ) : Type 0 where
   pub within : p < length hs
   pub room : slice_index_or hs p 0 ≡ 0 → p < 64 * length ws
 
-pub record Claimed (turn p : ℕ) (hs ws : List ℕ) (r : Met) (hs' ws' : List ℕ) : Type 0 where
-  pub answer : r ≡ pick (slice_index hs p == 0) (New 1) (pick (nat_lt (slice_index hs p) turn) Clash (New 0))
+pub record Claimed (turn p : ℕ) (hs ws : List ℕ) (r : Result ℕ Broken) (hs' ws' : List ℕ) : Type 0 where
+  pub answer : r ≡ pick (slice_index hs p == 0) (Ok 1) (pick (nat_lt (slice_index hs p) turn) refusal (Ok 0))
   pub holders : hs' ≡ pick (slice_index hs p == 0) (slice_set hs p turn) hs
   pub words : ws' ≡ pick (slice_index hs p == 0) (mark ws p) ws
 
 -- those of an area: one is an earlier session's, or they are marked
-pub record AreaClaimed (turn count : ℕ) (is : List ℕ) (most : ℕ) (hs ws : List ℕ) (r : Met) (hs' ws' : List ℕ) : Type 0 where
-  pub answer : r ≡ pick (any (earlier turn hs) is) Clash (New (new_marks ws is))
-  pub words : (k : ℕ) → r ≡ New k → ws' ≡ marks ws is
-  pub agrees : (k : ℕ) → r ≡ New k → Agrees turn count hs' ws'
-  pub same : (k : ℕ) → r ≡ New k → (i : ℕ) → earlier turn hs' i ≡ earlier turn hs i
-  pub few : (k : ℕ) → r ≡ New k → k ≤ most
+pub record AreaClaimed (turn count : ℕ) (is : List ℕ) (most : ℕ) (hs ws : List ℕ) (r : Result ℕ Broken) (hs' ws' : List ℕ) : Type 0 where
+  pub answer : r ≡ pick (any (earlier turn hs) is) refusal (Ok (new_marks ws is))
+  pub words : (k : ℕ) → r ≡ Ok k → ws' ≡ marks ws is
+  pub agrees : (k : ℕ) → r ≡ Ok k → Agrees turn count hs' ws'
+  pub same : (k : ℕ) → r ≡ Ok k → (i : ℕ) → earlier turn hs' i ≡ earlier turn hs i
+  pub few : (k : ℕ) → r ≡ Ok k → k ≤ most
 
 -- ---- one record
 
@@ -95,12 +96,12 @@ unfoldable pub held_offsets : Settings → List ℕ → List ℕ
 held_offsets s xs = address_offsets s (view_session xs)
 
 -- none of a session's was marked, and then they are
-pub record AddressesAdmitted (s : Settings) (ws xs : List ℕ) (r : Met) (ws' : List ℕ) : Type 0 where
-  pub answer : r ≡ pick (any (marked ws) (held_offsets s xs)) Clash (New (new_marks ws (held_offsets s xs)))
-  pub words : (n : ℕ) → r ≡ New n → ws' ≡ marks ws (held_offsets s xs)
-  pub few : (n : ℕ) → r ≡ New n → n ≤ 24
+pub record AddressesAdmitted (s : Settings) (ws xs : List ℕ) (r : Result ℕ Broken) (ws' : List ℕ) : Type 0 where
+  pub answer : r ≡ pick (any (marked ws) (held_offsets s xs)) refusal (Ok (new_marks ws (held_offsets s xs)))
+  pub words : (n : ℕ) → r ≡ Ok n → ws' ≡ marks ws (held_offsets s xs)
+  pub few : (n : ℕ) → r ≡ Ok n → n ≤ 24
 
 -- and the holders follow
-pub record SlotClaimed (s : Settings) (turn : ℕ) (ws xs : List ℕ) (r : Met) (hs' ws' : List ℕ) : Type 0 where
+pub record SlotClaimed (s : Settings) (turn : ℕ) (ws xs : List ℕ) (r : Result ℕ Broken) (hs' ws' : List ℕ) : Type 0 where
   pub admitted : AddressesAdmitted s ws xs r ws'
-  pub agrees : (n : ℕ) → r ≡ New n → Agrees turn s.address_count hs' ws'
+  pub agrees : (n : ℕ) → r ≡ Ok n → Agrees turn s.address_count hs' ws'

@@ -11,6 +11,7 @@ ghost use Rattle.unit.specs.Meaning.{settings_of};
 ghost use Rattle.records.specs.Slot.{slot_sound};
 ghost use Rattle.marking.specs.Offsets.{offset_of, address_at, offsets_in, holder_at, Present, Agrees, Claimable, Claimed, AreaClaimed, SlotClaimed};
 
+use crate::Broken;
 use format::{
     CSIDS, ENDPOINT, ENDPOINT_ADDRESS_THERE, ENDPOINT_COUNT, ENDPOINTS, MAX_ADDRESSES, PDR,
     PDR_ADDRESS_THERE, PDR_COUNT, PDRS,
@@ -21,13 +22,6 @@ use unit::Settings;
 pub const HOLDERS: usize = NO_ADDRESS + 1;
 
 pub const NO_ADDRESS: usize = MAX_ADDRESSES as usize;
-
-// What became of addresses that were to be entered: one is an earlier session's, or so many were new.
-#[derive(Clone, Copy)]
-pub enum Met {
-    Clash,
-    New(usize),
-}
 
 // Where the holder of a record's address stands. An address that is there counts 2^32 more, so that one that is not there is below every pool.
 fn holder_of(slot: &[u8], at: usize, u: Settings) -> usize
@@ -42,8 +36,8 @@ fn holder_of(slot: &[u8], at: usize, u: Settings) -> usize
     NO_ADDRESS
 }
 
-// The holder at p: this session's turn from now on, if there was none.
-fn claim(holders: &mut [u16], words: &mut [u64], p: usize, turn: u16) -> Met
+// The holder at p: this session's turn from now on, if there was none. An earlier session's is refused; else the answer is how many are new.
+fn claim(holders: &mut [u16], words: &mut [u64], p: usize, turn: u16) -> Result<usize, Broken>
     requires { Claimable p holders.old words.old }
     ensures { Claimed turn p holders.old words.old result holders.new words.new }
 {
@@ -51,12 +45,12 @@ fn claim(holders: &mut [u16], words: &mut [u64], p: usize, turn: u16) -> Met
     if holder == 0 {
         holders[p] = turn;
         pool::mark(words, p);
-        return Met::New(1);
+        return Ok(1);
     }
     if holder < turn {
-        return Met::Clash;
+        return Err(Broken);
     }
-    Met::New(0)
+    Ok(0)
 }
 
 // The addresses of an area of n records of w octets.
@@ -69,7 +63,7 @@ fn claim_all(
     at: usize,
     turn: u16,
     u: Settings,
-) -> Met
+) -> Result<usize, Broken>
     requires { (n * w ≤ length a.now) × (at + 5 ≤ w) × (u.first_address + u.addresses ≤ 2 ^ 32) × (u.addresses ≤ 64 * length words.old) × (1 ≤ turn) × (turn ≤ max_sessions) × Agrees turn u.addresses holders.old words.old × Present w at n a.now }
     ensures { AreaClaimed turn u.addresses (offsets_in (settings_of u) w at n a.now) n holders.old words.old result holders.new words.new }
 {
@@ -77,22 +71,24 @@ fn claim_all(
     for i in 0..n {
         let start = i * w;
         let p = holder_of(&a[start..start + w], at, u);
-        let step = claim(holders, words, p, turn);
-        let Met::New(k) = step else {
-            return Met::Clash;
-        };
-        new += k;
+        new += claim(holders, words, p, turn)?;
     }
-    Met::New(new)
+    Ok(new)
 }
 
 // The addresses of a session's records.
-pub fn admit(holders: &mut [u16], words: &mut [u64], slot: &[u8], turn: u16, u: Settings) -> Met
+pub fn admit(
+    holders: &mut [u16],
+    words: &mut [u64],
+    slot: &[u8],
+    turn: u16,
+    u: Settings,
+) -> Result<usize, Broken>
     requires { (length slot.now ≡ session_width) × T (slot_sound (settings_of u) slot.now) × (u.first + u.size ≤ 2 ^ 32) × (u.first_address + u.addresses ≤ 2 ^ 32) × (u.addresses ≤ 64 * length words.old) × (1 ≤ turn) × (turn ≤ max_sessions) × Agrees (turn - 1) u.addresses holders.old words.old }
     ensures { SlotClaimed (settings_of u) turn words.old slot.now result holders.new words.new }
 {
     let m = slot[ENDPOINT_COUNT] as usize;
-    let ends = claim_all(
+    let e = claim_all(
         holders,
         words,
         &slot[ENDPOINTS..CSIDS],
@@ -101,12 +97,9 @@ pub fn admit(holders: &mut [u16], words: &mut [u64], slot: &[u8], turn: u16, u: 
         ENDPOINT_ADDRESS_THERE,
         turn,
         u,
-    );
-    let Met::New(e) = ends else {
-        return Met::Clash;
-    };
+    )?;
     let n = slot[PDR_COUNT] as usize;
-    let pdrs = claim_all(
+    let p = claim_all(
         holders,
         words,
         &slot[PDRS..ENDPOINTS],
@@ -115,9 +108,6 @@ pub fn admit(holders: &mut [u16], words: &mut [u64], slot: &[u8], turn: u16, u: 
         PDR_ADDRESS_THERE,
         turn,
         u,
-    );
-    let Met::New(p) = pdrs else {
-        return Met::Clash;
-    };
-    Met::New(e + p)
+    )?;
+    Ok(e + p)
 }

@@ -25,12 +25,9 @@ use unit::Settings;
 
 pub mod addresses;
 
-// What became of records that were to be tested and marked: one is broken or holds a TEID against the rule, or so many TEIDs were new.
-#[derive(Clone, Copy)]
-pub enum Marks {
-    Clash,
-    New(usize),
-}
+// What is refused: a record or a session is broken, or holds what another one holds.
+#[derive(Clone, Copy, Debug, PartialEq, Eq)]
+pub struct Broken;
 
 // Whether a PDR's slot holds a TEID. Nearly all have another number there, so that is looked at first, and no branch goes by what they match on.
 pub fn holds(slot: &[u8], teid: u64) -> bool
@@ -76,22 +73,22 @@ fn shares(pdrs: &[u8], n: usize, slot: &[u8]) -> bool
 }
 
 // One endpoint: tested, and its TEID marked, which has to be new.
-fn admit_endpoint(words: &mut [u64], slot: &[u8], u: Settings) -> Marks
+fn admit_endpoint(words: &mut [u64], slot: &[u8], u: Settings) -> Result<usize, Broken>
     requires { (length slot.now ≡ endpoint_width) × (u.first + u.size ≤ 2 ^ 32) × (u.size ≤ 64 * length words.old) }
     ensures { Stepped (endpoint_sound (settings_of u) slot.now) u.first words.old [] (endpoint_hold slot.now) result words.new }
 {
     if !records::endpoint_sound(slot, u) {
-        return Marks::Clash;
+        return Err(Broken);
     }
     let teid = octets::read(slot, ENDPOINT_TEID, 4);
     if pool::mark(words, (teid - u.first) as usize) {
-        return Marks::Clash;
+        return Err(Broken);
     }
-    Marks::New(1)
+    Ok(1)
 }
 
 // The area of n endpoints, in one walk: each is tested and marked, their IDs ascend, and the room after them is zero.
-fn admit_endpoints(words: &mut [u64], ends: &[u8], n: usize, u: Settings) -> Marks
+fn admit_endpoints(words: &mut [u64], ends: &[u8], n: usize, u: Settings) -> Result<usize, Broken>
     requires { (n * endpoint_width ≤ length ends.now) × (u.first + u.size ≤ 2 ^ 32) × (u.size ≤ 64 * length words.old) }
     ensures { Marked (area_sound (endpoint_sound (settings_of u)) endpoint_width 1 n ends.now) u.first words.old (endpoint_holds n ends.now) result words.new }
 {
@@ -101,47 +98,57 @@ fn admit_endpoints(words: &mut [u64], ends: &[u8], n: usize, u: Settings) -> Mar
         let at = i * ENDPOINT;
         let id = octets::read(ends, at, 1);
         if id < next {
-            return Marks::Clash;
+            return Err(Broken);
         }
-        let step = admit_endpoint(words, &ends[at..at + ENDPOINT], u);
-        let Marks::New(k) = step else {
-            return Marks::Clash;
-        };
-        new += k;
+        new += admit_endpoint(words, &ends[at..at + ENDPOINT], u)?;
         next = id + 1;
     }
     let used = n * ENDPOINT;
     if !octets::is_zero(ends, used, ends.len() - used) {
-        return Marks::Clash;
+        return Err(Broken);
     }
-    Marks::New(new)
+    Ok(new)
 }
 
 // The PDR at place i: tested, and its TEID marked, if it has one. ends has the session's m endpoints.
-fn admit_pdr(words: &mut [u64], pdrs: &[u8], i: usize, ends: &[u8], m: usize, u: Settings) -> Marks
+fn admit_pdr(
+    words: &mut [u64],
+    pdrs: &[u8],
+    i: usize,
+    ends: &[u8],
+    m: usize,
+    u: Settings,
+) -> Result<usize, Broken>
     requires { ((i + 1) * pdr_width ≤ length pdrs.now) × (m * endpoint_width ≤ length ends.now) × (u.first + u.size ≤ 2 ^ 32) × (u.size ≤ 64 * length words.old) }
     ensures { Stepped (pdr_sound (settings_of u) (endpoint_ids m ends.now) (part (i * pdr_width) pdr_width pdrs.now)) u.first words.old (pdr_holds i pdrs.now) (hold_at pdrs.now i) result words.new }
 {
     let at = i * PDR;
     let slot = &pdrs[at..at + PDR];
     if !records::pdr_sound(slot, ends, m, u) {
-        return Marks::Clash;
+        return Err(Broken);
     }
     if slot[MATCH] != 1 {
-        return Marks::New(0);
+        return Ok(0);
     }
     let teid = octets::read(slot, TEID, 4);
     if !pool::mark(words, (teid - u.first) as usize) {
-        return Marks::New(1);
+        return Ok(1);
     }
     if shares(pdrs, i, slot) {
-        return Marks::New(0);
+        return Ok(0);
     }
-    Marks::Clash
+    Err(Broken)
 }
 
 // The area of n PDRs, in one walk: each is tested and marked, their IDs ascend, and the room after them is zero.
-fn admit_pdrs(words: &mut [u64], pdrs: &[u8], n: usize, ends: &[u8], m: usize, u: Settings) -> Marks
+fn admit_pdrs(
+    words: &mut [u64],
+    pdrs: &[u8],
+    n: usize,
+    ends: &[u8],
+    m: usize,
+    u: Settings,
+) -> Result<usize, Broken>
     requires { (n * pdr_width ≤ length pdrs.now) × (m * endpoint_width ≤ length ends.now) × (u.first + u.size ≤ 2 ^ 32) × (u.size ≤ 64 * length words.old) }
     ensures { Marked (area_sound (pdr_sound (settings_of u) (endpoint_ids m ends.now)) pdr_width 2 n pdrs.now) u.first words.old (pdr_holds n pdrs.now) result words.new }
 {
@@ -150,58 +157,48 @@ fn admit_pdrs(words: &mut [u64], pdrs: &[u8], n: usize, ends: &[u8], m: usize, u
     for i in 0..n {
         let id = octets::read(pdrs, i * PDR, 2);
         if id < next {
-            return Marks::Clash;
+            return Err(Broken);
         }
-        let step = admit_pdr(words, pdrs, i, ends, m, u);
-        let Marks::New(k) = step else {
-            return Marks::Clash;
-        };
-        new += k;
+        new += admit_pdr(words, pdrs, i, ends, m, u)?;
         next = id + 1;
     }
     let used = n * PDR;
     if !octets::is_zero(pdrs, used, pdrs.len() - used) {
-        return Marks::Clash;
+        return Err(Broken);
     }
-    Marks::New(new)
+    Ok(new)
 }
 
 // Tests a session's slot and marks its TEIDs. A slot that is broken, or holds a TEID against the rule, is a clash.
-fn admit(words: &mut [u64], slot: &[u8], u: Settings) -> Marks
+fn admit(words: &mut [u64], slot: &[u8], u: Settings) -> Result<usize, Broken>
     requires { (length slot.now ≡ session_width) × (u.first + u.size ≤ 2 ^ 32) × (u.size ≤ 64 * length words.old) }
     ensures { Admitted (settings_of u) words.old slot.now result words.new }
 {
     if !records::slot::head_sound(slot) {
-        return Marks::Clash;
+        return Err(Broken);
     }
     if !records::slot::csids_sound(&slot[CSIDS..SLOT], slot[CSID_COUNT] as usize) {
-        return Marks::Clash;
+        return Err(Broken);
     }
     let ends = &slot[ENDPOINTS..CSIDS];
     let m = slot[ENDPOINT_COUNT] as usize;
-    let held = admit_endpoints(words, ends, m, u);
-    let Marks::New(e) = held else {
-        return Marks::Clash;
-    };
-    let pdrs = admit_pdrs(
+    let e = admit_endpoints(words, ends, m, u)?;
+    let p = admit_pdrs(
         words,
         &slot[PDRS..ENDPOINTS],
         slot[PDR_COUNT] as usize,
         ends,
         m,
         u,
-    );
-    let Marks::New(p) = pdrs else {
-        return Marks::Clash;
-    };
-    Marks::New(e + p)
+    )?;
+    Ok(e + p)
 }
 
-// What became of a table's sessions: one is broken or holds what another one holds, or so many TEIDs and addresses were new.
+// How many TEIDs and addresses of a session were new.
 #[derive(Clone, Copy)]
-pub enum Seen {
-    Broken,
-    Held(usize, usize),
+pub struct New {
+    pub teids: usize,
+    pub addresses: usize,
 }
 
 // Tests a session's slot and marks its TEIDs, and its addresses of the pool. turn counts the sessions, from 1.
@@ -212,30 +209,19 @@ fn admit_session(
     slot: &[u8],
     turn: u16,
     u: Settings,
-) -> Seen
+) -> Result<New, Broken>
     requires { (length slot.now ≡ session_width) × (u.first + u.size ≤ 2 ^ 32) × (u.size ≤ 64 * length words.old) × (u.first_address + u.addresses ≤ 2 ^ 32) × (u.addresses ≤ 64 * length addresses.old) × (1 ≤ turn) × (turn ≤ max_sessions) × Agrees (turn - 1) u.addresses holders.old addresses.old }
     ensures { SessionClaimed (settings_of u) turn words.old addresses.old slot.now result words.new holders.new addresses.new }
 {
-    let teids = admit(words, slot, u);
-    let Marks::New(n) = teids else {
-        return Seen::Broken;
-    };
-    let held = addresses::admit(holders, addresses, slot, turn, u);
-    let addresses::Met::New(k) = held else {
-        return Seen::Broken;
-    };
-    Seen::Held(n, k)
+    let teids = admit(words, slot, u)?;
+    let held = addresses::admit(holders, addresses, slot, turn, u)?;
+    Ok(New {
+        teids,
+        addresses: held,
+    })
 }
 
-// What became of the whole walk: a session is broken or holds what another one holds; or how many TEIDs peer 1's sessions hold and peer 2's, how many
-// sessions peer 1 has, and how many addresses were new.
-#[derive(Clone, Copy)]
-pub enum Walked {
-    Broken,
-    Held(usize, usize, usize, usize),
-}
-
-// What was counted so far, in that order.
+// What the sessions walked so far hold: how many TEIDs peer 1's hold and peer 2's, how many sessions are peer 1's, and how many addresses are held.
 #[derive(Clone, Copy)]
 pub struct Tally {
     pub one: usize,
@@ -244,17 +230,17 @@ pub struct Tally {
     pub taken: usize,
 }
 
-// With a session of a peer that has j TEIDs and k addresses. No branch goes by whose it is.
-fn added(c: Tally, j: usize, k: usize, peer: u8) -> Tally
-    requires { Tallied c.one c.two c.first c.taken j k peer }
-    ensures { (result.one ≡ c.one + j * (2 - peer)) × (result.two ≡ c.two + j * (peer - 1)) × (result.first ≡ c.first + (2 - peer)) × (result.taken ≡ c.taken + k) }
+// With a session of a peer that has so many new ones. No branch goes by whose it is.
+fn added(c: Tally, new: New, peer: u8) -> Tally
+    requires { Tallied c new peer }
+    ensures { (result.one ≡ c.one + new.teids * (2 - peer)) × (result.two ≡ c.two + new.teids * (peer - 1)) × (result.first ≡ c.first + (2 - peer)) × (result.taken ≡ c.taken + new.addresses) }
 {
     let p = peer as usize;
     Tally {
-        one: c.one + j * (2 - p),
-        two: c.two + j * (p - 1),
+        one: c.one + new.teids * (2 - p),
+        two: c.two + new.teids * (p - 1),
         first: c.first + (2 - p),
-        taken: c.taken + k,
+        taken: c.taken + new.addresses,
     }
 }
 
@@ -265,7 +251,7 @@ pub fn admit_all(
     a: &[u8],
     n: usize,
     u: Settings,
-) -> Walked
+) -> Result<Tally, Broken>
     requires { (n * session_width ≤ length a.now) × (n ≤ max_sessions) × (u.first + u.size ≤ 2 ^ 32) × (u.size ≤ 64 * length words.old) × (u.first_address + u.addresses ≤ 2 ^ 32) × (u.addresses ≤ max_addresses) × (addresses.old ≡ replicate address_words 0) }
     ensures { AllAdmitted (settings_of u) words.old addresses.old (slices session_width n a.now) result words.new addresses.new }
 {
@@ -280,11 +266,8 @@ pub fn admit_all(
     for i in 0..n {
         let at = i * SLOT;
         let slot = &a[at..at + SLOT];
-        let step = admit_session(words, &mut holders, addresses, slot, (i + 1) as u16, u);
-        let Seen::Held(j, k) = step else {
-            return Walked::Broken;
-        };
-        sum = added(sum, j, k, slot[0]);
+        let new = admit_session(words, &mut holders, addresses, slot, (i + 1) as u16, u)?;
+        sum = added(sum, new, slot[0]);
     }
-    Walked::Held(sum.one, sum.two, sum.first, sum.taken)
+    Ok(sum)
 }

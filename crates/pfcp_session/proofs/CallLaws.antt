@@ -11,12 +11,7 @@ use Rattle.octets.specs.Choice.{pick}
 use Rattle.rules.specs.Limits.{max_sessions, max_pool, max_addresses}
 use Rattle.rules.specs.Model.{Settings, Sessions, free_count, free_address_count, is_peer, half, of_peer, holdings}
 use Rattle.rules.specs.Layout.{view_settings, view_sessions}
-use Rattle.rules.specs.Sound.{sound, make, broken, free, count_free, count_addresses}
-use Rattle.table.specs.declared.Making.{Making}
-use Rattle.table.specs.declared.Making.TheVariants.{Made, Refused}
-use Rattle.table.specs.declared.Count as code
-use Rattle.table.specs.declared.Count.TheVariants.{Broken, Free}
-use Rattle.table.specs.Answers.{made_of, count_told}
+use Rattle.rules.specs.Sound.{sound, make, Made, Count, broken, free, count_free, count_addresses}
 use Rattle.engine.specs.Steps.{Serves}
 use Rattle.rules.specs.Store.{empty}
 use Rattle.rules.specs.Repeats.{Once, request_once}
@@ -28,25 +23,14 @@ use Rattle.laws.proofs.KeptRules.{table_kept}
 use Rattle.laws.proofs.KeptSettings.{settings_kept}
 use Rattle.pool.proofs.TakenLaws.{pool_fits}
 use Rattle.table.proofs.SoundSlots.{few_sessions_lem}
-use Rattle.pfcp_session.specs.Calls.{StoreCall, store_answer, store_call, once_call, MakeCall, make_answer, make_call, CountCall, count_answer, count_call, address_count_call, CountFits, RequestCall, reply_of, request_answer, request_call}
+use Rattle.pfcp_session.specs.Calls.{StoreCall, store_answer, store_call, once_call, make_answer, make_call, CountCall, count_answer, count_call, address_count_call, CountFits, RequestCall, reply_of, request_answer, request_call}
 
-module _ (s : Settings) (t t' : List ℕ) (r : Making) (e : made_of r t' ≡ make s t) where
-  pub call_made : r ≡ Made → ◌≡◌ {A = MakeCall} (record { outcome = 0; table = t' }) (make_call s t)
+module _ (s : Settings) (t : List ℕ) (m : Made) (e : m ≡ make s t) where
+  pub call_answer : make_answer m ≡ make_call s t
   unfolding make_call
-  call_made z = ap make_answer (ap (λ (x : Making). made_of x t') (sym z) ∙ e)
-
-  pub call_refused : r ≡ Refused → ◌≡◌ {A = MakeCall} (record { outcome = 1; table = t' }) (make_call s t)
-  unfolding make_call
-  call_refused z = ap make_answer (ap (λ (x : Making). made_of x t') (sym z) ∙ e)
+  call_answer = ap make_answer e
 
 -- ---- counts
-
-module _ (r : code.Count) where
-  pub tell_broken : r ≡ Broken → ◌≡◌ {A = CountCall} (record { outcome = 1; count = 0 }) (count_answer (count_told r))
-  tell_broken z = ap (λ (c : code.Count). count_answer (count_told c)) (sym z)
-
-  pub tell_free : (n : ℕ) → r ≡ Free n → ◌≡◌ {A = CountCall} (record { outcome = 0; count = n }) (count_answer (count_told r))
-  tell_free n z = ap (λ (c : code.Count). count_answer (count_told c)) (sym z)
 
 -- a free count is at most the pool's size
 few_with : (b : Bool) (k n most : ℕ) → (T b → k ≤ most) → pick b (free k) broken ≡ free n → n ≤ most
@@ -62,21 +46,21 @@ module _ (t : List ℕ) (h : T (sound t)) where
   unfolding free_address_count
   few_addresses = omega (arith, (settings_kept (view_settings t) (table_kept t h).settings).addresses.few)
 
-module _ (t : List ℕ) (r : code.Count) where
-  pub teids_fit_lem : count_told r ≡ count_free t → CountFits r
+module _ (t : List ℕ) (r : Count) where
+  pub teids_fit_lem : r ≡ count_free t → CountFits r
   unfolding count_free
-  teids_fit_lem e = record { small = λ n z. let f = few_with (sound t) (free_count (view_settings t) (view_sessions t)) n max_pool (few_free t) (sym e ∙ ap count_told z) in omega arith }
+  teids_fit_lem e = record { small = λ n z. let f = few_with (sound t) (free_count (view_settings t) (view_sessions t)) n max_pool (few_free t) (sym e ∙ z) in omega arith }
 
-  pub addresses_fit : count_told r ≡ count_addresses t → CountFits r
+  pub addresses_fit : r ≡ count_addresses t → CountFits r
   unfolding count_addresses
   addresses_fit e =
-      record { small = λ n z. let f = few_with (sound t) (free_address_count (view_settings t) (view_sessions t)) n max_addresses (few_addresses t) (sym e ∙ ap count_told z) in omega arith }
+      record { small = λ n z. let f = few_with (sound t) (free_address_count (view_settings t) (view_sessions t)) n max_addresses (few_addresses t) (sym e ∙ z) in omega arith }
 
-  pub call_counted : (a : CountCall) → count_told r ≡ count_free t → a ≡ count_answer (count_told r) → a ≡ count_call t
+  pub call_counted : (a : CountCall) → r ≡ count_free t → a ≡ count_answer r → a ≡ count_call t
   unfolding count_call
   call_counted a e f = f ∙ ap count_answer e
 
-  pub call_addresses : (a : CountCall) → count_told r ≡ count_addresses t → a ≡ count_answer (count_told r) → a ≡ address_count_call t
+  pub call_addresses : (a : CountCall) → r ≡ count_addresses t → a ≡ count_answer r → a ≡ address_count_call t
   unfolding address_count_call
   call_addresses a e f = f ∙ ap count_answer e
 

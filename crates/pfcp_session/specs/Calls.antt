@@ -5,8 +5,6 @@ use Rattle.octets.specs.Choice.{pick}
 use Rattle.rules.specs.Model.{Settings}
 use Rattle.rules.specs.Layout.{view_settings, view_sessions}
 use Rattle.rules.specs.Sound.{Made, make, Count, broken, free, count_free, count_addresses}
-use Rattle.table.specs.declared.Count as code
-use Rattle.table.specs.declared.Count.TheVariants.{Free}
 use Rattle.rules.specs.Stages.{verdict}
 use Rattle.rules.specs.Serve.{Served, reply_to, serve}
 use Rattle.rules.specs.Restoring.{Writing, write_restoration}
@@ -42,8 +40,8 @@ unfoldable pub address_count_call : List ℕ → CountCall
 address_count_call t = count_answer (count_addresses t)
 
 -- a count has 32 bits
-pub record CountFits (c : code.Count) : Type 0 where
-  pub small : (n : ℕ) → c ≡ Free n → n < 2 ^ 32
+pub record CountFits (c : Count) : Type 0 where
+  pub small : (n : ℕ) → c ≡ free n → n < 2 ^ 32
 
 -- a request: 01's outcome, the length of the reply (0 where there is none), the place of a fault of stages 2 and 3 (else 0), the reply space and
 -- the table at exit

@@ -10,6 +10,7 @@ ghost use Rattle.table.specs.Answers.{count_told};
 ghost use Rattle.rules.specs.Store.{store_length};
 ghost use Rattle.pfcp_session.specs.Calls.{store_call, once_call, CountFits, count_answer, make_call, count_call, address_count_call, request_call, restoration_call, session_count_call, find_session_call, find_teid_call, peer_count_call, counts_call};
 
+use table::Broken;
 use unit::Peer;
 
 // Outcomes of making a table.
@@ -67,7 +68,7 @@ pub extern "C" fn pfcp_make_table(
         guarantee: guarantee2 as u64,
         limit: limit2 as u64,
     };
-    let answer = table::make(
+    match table::make(
         table,
         ipv4,
         ipv6,
@@ -78,24 +79,23 @@ pub extern "C" fn pfcp_make_table(
         session_limit,
         peer1,
         peer2,
-    );
-    match answer {
-        table::Making::Made => MADE,
-        table::Making::Refused => REFUSED,
+    ) {
+        Ok(()) => MADE,
+        Err(_) => REFUSED,
     }
 }
 
 // A count for the host: outcome 0 and the number, or 1 and 0 where the table is broken.
-fn tell(answer: table::Count, count: &mut u32) -> u32
-    requires { CountFits answer }
+fn tell(answer: Result<u64, Broken>, count: &mut u32) -> u32
+    requires { CountFits (count_told answer) }
     ensures { record { outcome = result; count = count.new } ≡ count_answer (count_told answer) }
 {
     match answer {
-        table::Count::Broken => {
+        Err(_) => {
             *count = 0;
             BROKEN
         }
-        table::Count::Free(n) => {
+        Ok(n) => {
             *count = n as u32;
             COUNTED
         }

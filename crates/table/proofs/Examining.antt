@@ -26,24 +26,24 @@ use Rattle.pool.specs.Map.{marks, new_marks, offsets}
 use Rattle.pool.proofs.TakenLaws.{pool_fits, pool_from, pool_below, map_is}
 use Rattle.pool.proofs.AddressLaws.{as_pool, held_pooled, address_map_is, address_marks_distinct}
 use Rattle.octets.proofs.Counting.{free_distinct}
-use Rattle.table.specs.declared.Count.TheVariants.{Broken, Free}
 use Rattle.marking.proofs.MapWalk.{all_in_pool}
 use Rattle.areas.specs.Records.{key_of}
 use Rattle.unit.specs.declared.Settings.{Settings as Unit}
 use Rattle.unit.specs.Meaning.{settings_of}
 use Rattle.unit.proofs.FieldLaws.{size_is, addresses_is, limit_is}
 use Rattle.records.specs.Kept.{settings_sound}
-use Rattle.marking.specs.declared.Walked.{Walked}
-use Rattle.marking.specs.declared.Walked.TheVariants.{Held}
+use Rattle.std.specs.Prelude.{Result, Ok}
+use Rattle.marking.specs.declared.Broken.{Broken}
+use Rattle.marking.specs.declared.Tally.{Tally}
+use Rattle.marking.specs.Refusal.{refusal}
 use Rattle.marking.specs.Marking.{teids_in, addresses_in, new_by, slots_by, AllAdmitted}
 use Rattle.table.specs.Tests.{limit_of, slots_of, order_sound, front_tests, front_sound, walk_sound, peers_sound, sessions_fit, teids_fit}
-use Rattle.table.specs.Answers.{Examined, counted, count_told}
+use Rattle.table.specs.Answers.{Examined, counted, examined, count_told}
 use Rattle.table.proofs.SoundLaws.{settings_front, settings_from, sessions_are, count_are, sound_law, walk_says, front_kept}
 use Rattle.table.proofs.Walks.{teids_are, addresses_are, by_peer, slots_by_lem}
 use Rattle.octets.proofs.Bools.{and-true, and-false, both_ways}
 use mir.Facts.{yes_leb}
 use Rattle.octets.proofs.Tests.{is_true}
-use Rattle.marking.specs.declared.Walked.TheVariants as marked
 
 -- ---- the front
 
@@ -159,20 +159,13 @@ module _ (s : Settings) (first second one two : ℕ) (a : Bool) (e : a ≡ sessi
 
 -- ---- examining
 
-held_holds : (b : Bool) (x : Walked) (p q f k : ℕ) → pick b x marked.Broken ≡ Held p q f k → T b
-held_holds true x p q f k e = tt
-held_holds false x p q f k e = absurd (let z : ◌≡◌ {A = ℕ} 0 1 = cc in omega arith)
+held_holds : (b : Bool) (x c : Tally) → pick b (Ok x) refusal ≡ Ok c → T b × (c ≡ x)
+held_holds true x c e = (tt, (cc))
+held_holds false x c e = absurd (let z : ◌≡◌ {A = ℕ} 0 1 = cc in omega arith)
 
-held_is : (b : Bool) (x : Walked) (p q f k : ℕ) → pick b x marked.Broken ≡ Held p q f k → x ≡ Held p q f k
-held_is true x p q f k e = e
-held_is false x p q f k e = absurd (let z : ◌≡◌ {A = ℕ} 0 1 = cc in omega arith)
-
-held_same : (a b c d p q f k : ℕ) → Held a b c d ≡ Held p q f k → (p ≡ a) × (q ≡ b) × (f ≡ c) × (k ≡ d)
-held_same a b c d p q f k e = (cc, cc, cc, cc)
-
-refused : (b : Bool) (p q f k : ℕ) → pick b (Held p q f k) marked.Broken ≡ marked.Broken → b ≡ false
-refused true p q f k e = absurd (let z : ◌≡◌ {A = ℕ} 0 1 = cc in omega arith)
-refused false p q f k e = refl
+refused : (b : Bool) (x : Tally) → pick b (Ok x) refusal ≡ refusal → b ≡ false
+refused true x e = absurd (let z : ◌≡◌ {A = ℕ} 0 1 = cc in omega arith)
+refused false x e = refl
 
 regroup : (a b c d e : Bool) → ((a && b) && (c && (d && e))) ≡ (a && (b && (c && (d && (e && true)))))
 regroup true true true true e = sym (and-true e)
@@ -195,28 +188,25 @@ held_few s held h = omega (arith, free_distinct s.first s.size held (below held 
         let l = pool_from s x (all_head (in_pool s) x ts g) in
         all_cons (λ t. ltb s.first (t + 1)) x ts (lt→ltb s.first (x + 1) (omega arith)) (from ts (all_tail (in_pool s) x ts g))
 
-broken : (t w v : List ℕ) → sound t ≡ false → Examined t marked.Broken w v
+broken : (t w v : List ℕ) → sound t ≡ false → Examined t refusal w v
 broken t w v e =
     record {
-      answer = sym (ap (λ (b : Bool). pick b (counted t) marked.Broken) e);
-      words = λ p q f k e. absurd (let z : ◌≡◌ {A = ℕ} 0 1 = cc in omega arith);
-      addresses = λ p q f k e. absurd (let z : ◌≡◌ {A = ℕ} 0 1 = cc in omega arith);
+      answer = sym (ap (λ (b : Bool). pick b (Ok (counted t)) refusal) e);
+      words = λ c e. absurd (let z : ◌≡◌ {A = ℕ} 0 1 = cc in omega arith);
+      addresses = λ c e. absurd (let z : ◌≡◌ {A = ℕ} 0 1 = cc in omega arith);
     }
 
 -- a table that is shorter than its head
-pub examined_short : (t w v : List ℕ) → length t < head_width → Examined t marked.Broken w v
+pub examined_short : (t w v : List ℕ) → length t < head_width → Examined t refusal w v
 examined_short t w v h = broken t w v short
   where
     short : sound t ≡ false
     short = unfold sound sound_tests in rw (ne_eqb (length t) (table_length (limit_of t)) (λ e. omega arith))
 
 -- what the walk tells is the sessions', where it is not refused
-pub record Told (t : List ℕ) (p q f k : ℕ) : Type 0 where
+pub record Told (t : List ℕ) (c : Tally) : Type 0 where
   pub walk : T (walk_sound t)
-  pub one : p ≡ holdings 1 (view_sessions t)
-  pub two : q ≡ holdings 2 (view_sessions t)
-  pub first : f ≡ length (of_peer 1 (view_sessions t))
-  pub taken : k ≡ distinct (held_addresses (view_settings t) (view_sessions t))
+  pub same : c ≡ counted t
   pub all : number (part settings_width 2 t) ≡ length (of_peer 1 (view_sessions t)) + length (of_peer 2 (view_sessions t))
 
 module _ (t : List ℕ) (o : T (octets t)) (f : Bool) (q : f ≡ front_sound t) where
@@ -229,7 +219,7 @@ module _ (t : List ℕ) (o : T (octets t)) (f : Bool) (q : f ≡ front_sound t) 
   abbrev as₀ : List ℕ
   as₀ = replicate address_words 0
 
-  pub examined_broken : (w v : List ℕ) → not f ≡ true → Examined t marked.Broken w v
+  pub examined_broken : (w v : List ℕ) → not f ≡ true → Examined t refusal w v
   examined_broken w v h = broken t w v (sound_law t o ∙ ap (λ (b : Bool). b && (walk_sound t && peers_sound t)) (sym q ∙ not-true f h))
 
   teids_held : teids_in st (slots_of t) ≡ offsets st.first (held_teids (view_sessions t))
@@ -258,87 +248,93 @@ module _ (t : List ℕ) (o : T (octets t)) (f : Bool) (q : f ≡ front_sound t) 
         (subst (λ (m : Sessions). T (all_pairs (apart st) m)) (sessions_are t) says.2)
         ∙ ap (holdings who) (sym (sessions_are t))
 
-    module _ (u : Unit) (is : settings_of u ≡ st) (n : ℕ) (ws as' : List ℕ) (r : Walked) (w v : List ℕ) (en : n ≡ number (part settings_width 2 t)) (ew : ws ≡ zs) (ev : as' ≡ as₀)
+    module _ (u : Unit) (is : settings_of u ≡ st) (n : ℕ) (ws as' : List ℕ) (r : Result Tally Broken) (w v : List ℕ) (en : n ≡ number (part settings_width 2 t)) (ew : ws ≡ zs) (ev : as' ≡ as₀)
         (x : AllAdmitted (settings_of u) ws as' (slices session_width n (part head_width (length t - head_width) t)) r w v) where
       admitted : AllAdmitted st zs as₀ (slots_of t) r w v
       admitted = transport (λ i. AllAdmitted (is i) (ew i) (ev i) (slices session_width (en i) (area_is t i)) r w v) x
 
-      answered : r ≡ pick (walk_sound t) (Held (new_by st 1 zs (slots_of t)) (new_by st 2 zs (slots_of t)) (slots_by 1 (slots_of t)) (new_marks as₀ (addresses_in st (slots_of t)))) marked.Broken
+      answered : r ≡ pick (walk_sound t) (Ok (record { one = new_by st 1 zs (slots_of t); two = new_by st 2 zs (slots_of t); first = slots_by 1 (slots_of t); taken = new_marks as₀ (addresses_in st (slots_of t)) })) refusal
       unfolding walk_sound
       answered = admitted.answer
 
-      pub walk_broken : r ≡ marked.Broken → Examined t marked.Broken w v
-      walk_broken e = broken t w v (sound_is ∙ ap (λ (b : Bool). b && peers_sound t) (refused (walk_sound t) _ _ _ _ (sym answered ∙ e)))
+      pub walk_broken : r ≡ refusal → Examined t refusal w v
+      walk_broken e = broken t w v (sound_is ∙ ap (λ (b : Bool). b && peers_sound t) (refused (walk_sound t) _ (sym answered ∙ e)))
 
-      module _ (one two first taken : ℕ) (e : r ≡ Held one two first taken) where
-        pub walk_told : Told t one two first taken
+      module _ (c : Tally) (e : r ≡ Ok c) where
+        pub walk_told : Told t c
         walk_told =
-            let walk = held_holds (walk_sound t) _ one two first taken (sym answered ∙ e) in
-            let same = held_same _ _ _ _ one two first taken (held_is (walk_sound t) _ one two first taken (sym answered ∙ e)) in
-            let says = walk_says t o front_holds walk in
+            let held = held_holds (walk_sound t) _ c (sym answered ∙ e) in
+            let says = walk_says t o front_holds held.0 in
             record {
-              walk = walk;
-              one = same.0 ∙ by_peer_is walk 1;
-              two = same.1 ∙ by_peer_is walk 2;
-              first = same.2 ∙ slots_by_lem 1 (slots_of t) ∙ ap (λ (m : Sessions). length (of_peer 1 m)) (sym (sessions_are t));
-              taken = same.3 ∙ ap (new_marks as₀) addresses_held ∙ address_marks_distinct st (view_sessions t) says.0;
+              walk = held.0;
+              same =
+                  held.1
+                  ∙ (λ i. record {
+                    one = by_peer_is held.0 1 i;
+                    two = by_peer_is held.0 2 i;
+                    first = (slots_by_lem 1 (slots_of t) ∙ ap (λ (m : Sessions). length (of_peer 1 m)) (sym (sessions_are t))) i;
+                    taken = (ap (new_marks as₀) addresses_held ∙ address_marks_distinct st (view_sessions t) says.0) i;
+                  });
               all = sym (count_are t) ∙ count_peers (view_sessions t) (known_peers st (view_sessions t) says.1);
             }
 
-        pub walk_first : first ≤ n
-        walk_first = omega (arith, en, walk_told.first, walk_told.all)
+        first_is : c.first ≡ length (of_peer 1 (view_sessions t))
+        first_is = ap (λ (x : Tally). x.first) walk_told.same
 
-        module _ (b : Bool) (eb : b ≡ (sessions_fit (settings_of u) first (n - first) && teids_fit (settings_of u) one two)) where
+        pub walk_first : c.first ≤ n
+        walk_first = omega (arith, en, first_is, walk_told.all)
+
+        module _ (b : Bool) (eb : b ≡ (sessions_fit (settings_of u) c.first (n - c.first) && teids_fit (settings_of u) c.one c.two)) where
           peers_are : b ≡ peers_sound t
           unfolding peers_sound peers_kept few_sessions few_teids due unused sessions_fit teids_fit
           peers_are =
               let told = walk_told in
               let m = view_sessions t in
-              let second : n - first ≡ length (of_peer 2 m) = omega (arith, en, told.first, told.all) in
+              let second : n - c.first ≡ length (of_peer 2 m) = omega (arith, en, first_is, told.all) in
               eb
-              ∙ (λ i. sessions_fit (is i) (told.first i) (second i) && teids_fit (is i) (told.one i) (told.two i))
+              ∙ (λ i. sessions_fit (is i) (told.same i).first (second i) && teids_fit (is i) (told.same i).one (told.same i).two)
               ∙ regroup (leb (length (of_peer 1 m)) (half st)) (leb (length (of_peer 2 m)) (half st)) (leb (holdings 1 m) (peer_of st 1).limit) (leb (holdings 2 m) (peer_of st 2).limit) (leb (due st 1 m + due st 2 m) st.size)
 
-          pub peers_broken : not b ≡ true → Examined t marked.Broken w v
+          pub peers_broken : not b ≡ true → Examined t refusal w v
           peers_broken g = broken t w v (sound_is ∙ ap (λ (c : Bool). walk_sound t && c) (sym peers_are ∙ not-true b g) ∙ and-false (walk_sound t))
 
-          pub examined_walk : not b ≡ false → Examined t (Held one two first taken) w v
+          pub examined_walk : not b ≡ false → Examined t (Ok c) w v
           examined_walk g =
               let told = walk_told in
               let says = walk_says t o front_holds told.walk in
               let yes : sound t ≡ true = sound_is ∙ (λ i. is_true (walk_sound t) told.walk i && (sym peers_are ∙ not-false b g) i) in
               record {
-                answer = (λ i. Held (told.one i) (told.two i) (told.first i) (told.taken i)) ∙ sym (ap (λ (c : Bool). pick c (counted t) marked.Broken) yes);
-                words = λ a b c d z. admitted.words one two first taken e ∙ ap (marks zs) teids_held ∙ map_is st (view_sessions t) says.0 (held_pool told.walk);
-                addresses = λ a b c d z. admitted.addresses one two first taken e ∙ ap (marks as₀) addresses_held ∙ address_map_is st (view_sessions t) says.0;
+                answer = (λ i. Ok (told.same i)) ∙ sym (ap (λ (c : Bool). pick c (Ok (counted t)) refusal) yes);
+                words = λ d z. admitted.words c e ∙ ap (marks zs) teids_held ∙ map_is st (view_sessions t) says.0 (held_pool told.walk);
+                addresses = λ d z. admitted.addresses c e ∙ ap (marks as₀) addresses_held ∙ address_map_is st (view_sessions t) says.0;
               }
 
--- ---- from the examination to the answers
+-- ---- from what is counted to the answers
 
-module _ (t : List ℕ) (r : Walked) (w u : List ℕ) (x : Examined t r w u) where
-  examined_no : r ≡ marked.Broken → sound t ≡ false
-  examined_no e = refused (sound t) _ _ _ _ (sym x.answer ∙ e)
+module _ (t : List ℕ) (r : Result Tally Broken) (x : r ≡ examined t) where
+  examined_no : r ≡ refusal → sound t ≡ false
+  examined_no e = refused (sound t) _ (sym x ∙ e)
 
-  pub sound_no : r ≡ marked.Broken → false ≡ sound t
+  pub sound_no : r ≡ refusal → false ≡ sound t
   sound_no e = sym (examined_no e)
 
-  pub count_broken : r ≡ marked.Broken → count_told Broken ≡ count_free t
+  pub count_broken : r ≡ refusal → count_told refusal ≡ count_free t
   unfolding count_free
   count_broken e = sym (rw (examined_no e))
 
-  pub addresses_broken : r ≡ marked.Broken → count_told Broken ≡ count_addresses t
+  pub addresses_broken : r ≡ refusal → count_told refusal ≡ count_addresses t
   unfolding count_addresses
   addresses_broken e = sym (rw (examined_no e))
 
-  module _ (p q f k : ℕ) (e : r ≡ Held p q f k) where
+  module _ (c : Tally) (e : r ≡ Ok c) where
     examined_yes : T (sound t)
-    examined_yes = held_holds (sound t) (counted t) p q f k (sym x.answer ∙ e)
+    examined_yes = (held_holds (sound t) (counted t) c (sym x ∙ e)).0
 
     pub sound_yes : true ≡ sound t
     sound_yes = sym (is_true (sound t) examined_yes)
 
-    pub numbers : (p ≡ holdings 1 (view_sessions t)) × (q ≡ holdings 2 (view_sessions t)) × (f ≡ length (of_peer 1 (view_sessions t))) × (k ≡ distinct (held_addresses (view_settings t) (view_sessions t)))
-    numbers = held_same _ _ _ _ p q f k (held_is (sound t) (counted t) p q f k (sym x.answer ∙ e))
+    pub numbers : c ≡ counted t
+    numbers = (held_holds (sound t) (counted t) c (sym x ∙ e)).1
 
     kept : TableKept t
     kept = table_kept t examined_yes
@@ -351,29 +347,29 @@ module _ (t : List ℕ) (r : Walked) (w u : List ℕ) (x : Examined t r w u) whe
     count_long = kept.whole
 
     -- the two hold all that is held
-    held_both : p + q ≡ distinct (held_teids (view_sessions t))
+    held_both : c.one + c.two ≡ distinct (held_teids (view_sessions t))
     unfolding other_peer
     held_both =
         let b = both_hold (view_settings t) 1 (unfold is_peer in tt) (view_sessions t) (known_peers (view_settings t) (view_sessions t) sessions.sessions) sessions.separate in
-        omega (arith, numbers.0, numbers.1)
+        omega (arith, ap (λ (y : Tally). y.one) numbers, ap (λ (y : Tally). y.two) numbers)
 
-    pub held_less : p + q ≤ (view_settings t).size
+    pub held_less : c.one + c.two ≤ (view_settings t).size
     held_less = omega (arith, held_both, held_few (view_settings t) (held_teids (view_sessions t)) (all_in_pool (view_settings t) (view_sessions t) sessions.sessions))
 
-    pub count_add : p + q < 2 ^ 64
+    pub count_add : c.one + c.two < 2 ^ 64
     count_add = omega (arith, held_less, pool_fits (view_settings t) kept.settings)
 
     module _ (s : Unit) (is : settings_of s ≡ view_settings t) where
-      pub count_less : p + q ≤ s.size
+      pub count_less : c.one + c.two ≤ s.size
       count_less = omega (arith, held_less, size_is s (view_settings t) is)
 
-      pub addresses_less : k ≤ s.addresses
-      addresses_less = omega (arith, numbers.3, held_few (as_pool (view_settings t)) (held_addresses (view_settings t) (view_sessions t)) (held_pooled (view_settings t) (view_sessions t)), addresses_is s (view_settings t) is)
+      pub addresses_less : c.taken ≤ s.addresses
+      addresses_less = omega (arith, ap (λ (y : Tally). y.taken) numbers, held_few (as_pool (view_settings t)) (held_addresses (view_settings t) (view_sessions t)) (held_pooled (view_settings t) (view_sessions t)), addresses_is s (view_settings t) is)
 
-      pub count_free_lem : count_told (Free (s.size - (p + q))) ≡ count_free t
+      pub count_free_lem : count_told (Ok (s.size - (c.one + c.two))) ≡ count_free t
       unfolding count_free free_count
       count_free_lem = (λ i. free (size_is s (view_settings t) is i - held_both i)) ∙ sym (rw (sym sound_yes))
 
-      pub addresses_free_lem : count_told (Free (s.addresses - k)) ≡ count_addresses t
+      pub addresses_free_lem : count_told (Ok (s.addresses - c.taken)) ≡ count_addresses t
       unfolding count_addresses free_address_count
-      addresses_free_lem = (λ i. free (addresses_is s (view_settings t) is i - numbers.3 i)) ∙ sym (rw (sym sound_yes))
+      addresses_free_lem = (λ i. free (addresses_is s (view_settings t) is i - (numbers i).taken)) ∙ sym (rw (sym sound_yes))

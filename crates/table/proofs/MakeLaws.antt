@@ -18,7 +18,7 @@ use Rattle.rules.specs.Model.{Settings, Peer}
 use Rattle.rules.specs.Layout.{session_width, table_length, area, settings_octets, encode, settings_width}
 use Rattle.rules.specs.Sound.{pool_tests, address_pool_tests, limit_tests, peers_tests, ipv6_allowed, settings_tests, settings_allowed, length_for, make}
 use Rattle.laws.proofs.TableLaws.{ipv6_short}
-use Rattle.table.specs.declared.Making.TheVariants.{Made, Refused}
+use Rattle.std.specs.Prelude.{Ok, Err}
 use Rattle.unit.specs.Meaning.{settings_given}
 use Rattle.table.specs.Answers.{made_of}
 
@@ -65,15 +65,15 @@ length_allowed l b q h = sym (rw (← q, not-false b h))
 -- ---- the answers
 
 module _ (a f z u n l : ℕ) (b c : Peer) (v t : List ℕ) (o : T (octets v)) where
-  refused : (settings_allowed (settings_given a v f z u n l b c) && eqb (length t) (table_length l)) ≡ false → made_of Refused t ≡ make (settings_given a v f z u n l b c) t
+  refused : (settings_allowed (settings_given a v f z u n l b c) && eqb (length t) (table_length l)) ≡ false → made_of (Err (record {})) t ≡ make (settings_given a v f z u n l b c) t
   unfolding make
   refused e = sym (rw e)
 
-  pub make_length : (length t ≡ table_length l → ⊥) → made_of Refused t ≡ make (settings_given a v f z u n l b c) t
+  pub make_length : (length t ≡ table_length l → ⊥) → made_of (Err (record {})) t ≡ make (settings_given a v f z u n l b c) t
   make_length h = refused (rw (ne_eqb (length t) (table_length l) h) (and-false (settings_allowed (settings_given a v f z u n l b c))))
 
   module _ (r : Bool) (q : r ≡ (eqb (length v) 0 || eqb (length v) 16)) where
-    pub make_address : not r ≡ true → made_of Refused t ≡ make (settings_given a v f z u n l b c) t
+    pub make_address : not r ≡ true → made_of (Err (record {})) t ≡ make (settings_given a v f z u n l b c) t
     make_address h = refused (rw (allowed_is a f z u n l b c v o, address_is v, ← q, not-true r h))
 
     pub address_good : not r ≡ false → T (ipv6_allowed v) × (length v ≤ 16)
@@ -81,14 +81,14 @@ module _ (a f z u n l : ℕ) (b c : Peer) (v t : List ℕ) (o : T (octets v)) wh
 
   -- the settings read from the parameters are allowed or not
   module _ (s : Settings) (given : s ≡ settings_given a v f z u n l b c) (p : Bool) (k : p ≡ settings_allowed s) where
-    pub make_settings : not p ≡ true → made_of Refused t ≡ make (settings_given a v f z u n l b c) t
+    pub make_settings : not p ≡ true → made_of (Err (record {})) t ≡ make (settings_given a v f z u n l b c) t
     make_settings g = refused (rw (← given, ← k, not-true p g))
 
-    pub make_made : not p ≡ false → length t ≡ table_length l → (t' : List ℕ) → t' ≡ encode s [] → made_of Made t' ≡ make (settings_given a v f z u n l b c) t
+    pub make_made : not p ≡ false → length t ≡ table_length l → (t' : List ℕ) → t' ≡ encode s [] → made_of (Ok tt) t' ≡ make (settings_given a v f z u n l b c) t
     unfolding make
     make_made g e' t' e =
         let yes' : (settings_allowed (settings_given a v f z u n l b c) && eqb (length t) (table_length l)) ≡ true = rw (← given, ← k, not-false p g, eq-eqb (length t) (table_length l) e') in
-        ap (made_of Made) (e ∙ ap (λ (x : Settings). encode x []) given) ∙ sym (rw yes')
+        ap (made_of (Ok tt)) (e ∙ ap (λ (x : Settings). encode x []) given) ∙ sym (rw yes')
 
 -- ---- the table's octets
 

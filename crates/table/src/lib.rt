@@ -10,17 +10,11 @@ ghost use Rattle.rules.specs.Sound.{sound, count_free, count_addresses, length_f
 ghost use Rattle.rules.specs.Layout.{head_width, view_settings};
 ghost use Rattle.unit.specs.Meaning.{settings_of, settings_given, peer_from};
 ghost use Rattle.table.specs.Tests.{front_sound, sessions_fit, teids_fit};
-ghost use Rattle.table.specs.Answers.{Examined, count_told, made_of};
+ghost use Rattle.table.specs.Answers.{Examined, examined, count_told, made_of};
 
 use format::{COUNT, HEAD, SETTINGS, SLOT};
+pub use marking::{Broken, Tally};
 use unit::{Peer, Settings};
-
-// The number of free TEIDs or addresses, or that the table is broken (01's outcome 1).
-#[derive(Clone, Copy)]
-pub enum Count {
-    Broken,
-    Free(u64),
-}
 
 // The tests before the walk over the sessions: settings, length, number of sessions, order of keys, unused room. u has the settings.
 fn front_sound(t: &[u8], u: Settings) -> bool
@@ -78,79 +72,63 @@ fn teids_fit(u: Settings, one: usize, two: usize) -> bool
     due(one as u64, u.peer1.guarantee) <= u.size - rest
 }
 
-// Both.
-fn peers_fit(u: Settings, one: usize, two: usize, first: usize, second: usize) -> bool
-    ensures { result ≡ (sessions_fit (settings_of u) first second && teids_fit (settings_of u) one two) }
+// Both. second is how many sessions peer 2 has.
+fn peers_fit(u: Settings, held: Tally, second: usize) -> bool
+    ensures { result ≡ (sessions_fit (settings_of u) held.first second && teids_fit (settings_of u) held.one held.two) }
 {
-    if !sessions_fit(u, first, second) {
-        return false;
-    }
-    teids_fit(u, one, two)
+    sessions_fit(u, held.first, second) && teids_fit(u, held.one, held.two)
 }
 
-// Tests the whole table and fills the maps of its TEIDs and addresses, which have to be empty: broken, or how many TEIDs each peer
-// holds, how many sessions are peer 1's, and how many addresses of the pool are held.
-pub fn examine(t: &[u8], words: &mut [u64], addresses: &mut [u64]) -> marking::Walked
+// Tests the whole table and fills the maps of its TEIDs and addresses, which have to be empty: broken, or what its sessions hold.
+pub fn examine(t: &[u8], words: &mut [u64], addresses: &mut [u64]) -> Result<Tally, Broken>
     requires { (words.old ≡ replicate map_words 0) × (addresses.old ≡ replicate address_words 0) }
     ensures { Examined t.now result words.new addresses.new }
 {
     if t.len() < HEAD {
-        return marking::Walked::Broken;
+        return Err(Broken);
     }
     let u = unit::read(t);
     if !front_sound(t, u) {
-        return marking::Walked::Broken;
+        return Err(Broken);
     }
     let n = octets::read(t, COUNT, 2) as usize;
-    let walked = marking::admit_all(words, addresses, &t[HEAD..], n, u);
-    let marking::Walked::Held(one, two, first, taken) = walked else {
-        return marking::Walked::Broken;
-    };
-    if !peers_fit(u, one, two, first, n - first) {
-        return marking::Walked::Broken;
+    let held = marking::admit_all(words, addresses, &t[HEAD..], n, u)?;
+    if !peers_fit(u, held, n - held.first) {
+        return Err(Broken);
     }
-    marking::Walked::Held(one, two, first, taken)
+    Ok(held)
+}
+
+// What the sessions of a table hold, if it is not broken.
+pub fn tally(t: &[u8]) -> Result<Tally, Broken>
+    ensures { result ≡ examined t.now }
+{
+    let mut words = [0u64; pool::WORDS];
+    let mut addresses = [0u64; pool::ADDRESS_WORDS];
+    examine(t, &mut words, &mut addresses)
 }
 
 // Whether the table is not broken.
 pub fn is_sound(t: &[u8]) -> bool
     ensures { result ≡ sound t.now }
 {
-    let mut words = [0u64; pool::WORDS];
-    let mut addresses = [0u64; pool::ADDRESS_WORDS];
-    let seen = examine(t, &mut words, &mut addresses);
-    let marking::Walked::Held(one, two, first, taken) = seen else {
-        return false;
-    };
-    true
+    tally(t).is_ok()
 }
 
 // How many TEIDs of the pool no record holds.
-pub fn free_count(t: &[u8]) -> Count
+pub fn free_count(t: &[u8]) -> Result<u64, Broken>
     ensures { count_told result ≡ count_free t.now }
 {
-    let mut words = [0u64; pool::WORDS];
-    let mut addresses = [0u64; pool::ADDRESS_WORDS];
-    let seen = examine(t, &mut words, &mut addresses);
-    let marking::Walked::Held(one, two, first, taken) = seen else {
-        return Count::Broken;
-    };
-    let u = unit::read(t);
-    Count::Free(u.size - (one + two) as u64)
+    let held = tally(t)?;
+    Ok(unit::read(t).size - (held.one + held.two) as u64)
 }
 
 // How many addresses of the pool no record holds.
-pub fn free_addresses(t: &[u8]) -> Count
+pub fn free_addresses(t: &[u8]) -> Result<u64, Broken>
     ensures { count_told result ≡ count_addresses t.now }
 {
-    let mut words = [0u64; pool::WORDS];
-    let mut addresses = [0u64; pool::ADDRESS_WORDS];
-    let seen = examine(t, &mut words, &mut addresses);
-    let marking::Walked::Held(one, two, first, taken) = seen else {
-        return Count::Broken;
-    };
-    let u = unit::read(t);
-    Count::Free(u.addresses - taken as u64)
+    let held = tally(t)?;
+    Ok(unit::read(t).addresses - held.taken as u64)
 }
 
 // How many octets a table of so many sessions has; none for a limit that is not allowed.
@@ -163,12 +141,9 @@ pub fn length_for(limit: u32) -> usize
     HEAD + limit as usize * SLOT
 }
 
-// Whether an empty table was made, or the settings or the length were refused.
-#[derive(Clone, Copy)]
-pub enum Making {
-    Made,
-    Refused,
-}
+// The settings or the length of a table that was to be made are not allowed.
+#[derive(Clone, Copy, Debug, PartialEq, Eq)]
+pub struct Refused;
 
 // Whether there is no IPv6 address, or a whole one.
 fn address_fits(n: usize) -> bool
@@ -193,21 +168,21 @@ pub fn make(
     limit: u32,
     peer1: Peer,
     peer2: Peer,
-) -> Making
+) -> Result<(), Refused>
     ensures { made_of result t.new ≡ make (settings_given ipv4 ipv6.now first size address count limit (peer_from peer1) (peer_from peer2)) t.old }
 {
     let n = HEAD + limit as usize * SLOT;
     if t.len() != n {
-        return Making::Refused;
+        return Err(Refused);
     }
     if !address_fits(ipv6.len()) {
-        return Making::Refused;
+        return Err(Refused);
     }
     let u = unit::given(ipv4, ipv6, first, size, address, count, limit, peer1, peer2);
     if !unit::allowed(u) {
-        return Making::Refused;
+        return Err(Refused);
     }
     octets::clear(t, 0, n);
     unit::write(&mut t[0..SETTINGS], u);
-    Making::Made
+    Ok(())
 }

@@ -16,7 +16,7 @@ pub returns-then-out-lt-SPACE : goal.returns-then-out-lt-SPACE
 returns-then-out-lt-SPACE c = search serves_small
 
 pub read-u-requires : goal.read-u-requires
-read-u-requires c = omega (arith, count_long _ _ _ _ c.examine-walked.ensures _ _ _ _ c.in-Held.is)
+read-u-requires c = omega (arith, count_long _ _ c.examine.ensures.answer _ c.in-Ok.is)
 
 pub returns-in-TooLong : goal.returns-in-TooLong
 returns-in-TooLong c = search serves_long
@@ -28,10 +28,10 @@ pub returns-in-NotServed : goal.returns-in-NotServed
 returns-in-NotServed c = search serves_other
 
 pub delete_list-replied-requires : goal.delete_list-replied-requires
-delete_list-replied-requires c = (asks_list _ _ _ _ c.requires c.examine-walked.ensures c.in-Held.is c.if-out-lt-SPACE.false c.read_header-header.ensures c.in-Sets.is, c.read-u.ensures)
+delete_list-replied-requires c = (asks_list _ _ _ _ c.requires c.examine.ensures c.in-Ok.is c.if-out-lt-SPACE.false c.read_header-header.ensures c.in-Sets.is, c.read-u.ensures)
 
 pub returns-in-Sets : goal.returns-in-Sets
-returns-in-Sets c = serves_list _ _ _ _ c.requires c.examine-walked.ensures c.in-Held.is c.if-out-lt-SPACE.false c.read_header-header.ensures c.in-Sets.is c.delete_list-replied.ensures
+returns-in-Sets c = serves_list _ _ _ _ c.requires c.examine.ensures c.in-Ok.is c.if-out-lt-SPACE.false c.read_header-header.ensures c.in-Sets.is c.delete_list-replied.ensures
 
 pub share-share-requires : goal.share-share-requires
 share-share-requires c = (search rules, search tallies)
@@ -43,8 +43,8 @@ pub answer-replied-requires : goal.answer-replied-requires
 answer-replied-requires c =
     let s = c in
     let o : T (octets c.args.msg.now) = octets_known c.args.msg.now (λ i. (c.type_inv.msg i).fits) in
-    let x = c.examine-walked.ensures in
-    let e = c.in-Held.is in
+    let x = c.examine.ensures in
+    let e = c.in-Ok.is in
     let l = c.if-out-lt-SPACE.false in
     let h = c.read_header-header.ensures in
     let d = c.in-Request.is in
@@ -56,4 +56,4 @@ answer-replied-requires c =
     )
 
 pub returns-in-Request : goal.returns-in-Request
-returns-in-Request c = serves_answer _ _ _ _ c.requires c.examine-walked.ensures c.in-Held.is c.if-out-lt-SPACE.false c.read_header-header.ensures c.in-Request.is c.share-share.ensures.0 c.answer-replied.ensures
+returns-in-Request c = serves_answer _ _ _ _ c.requires c.examine.ensures c.in-Ok.is c.if-out-lt-SPACE.false c.read_header-header.ensures c.in-Request.is c.share-share.ensures.0 c.answer-replied.ensures

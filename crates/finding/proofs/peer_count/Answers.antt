@@ -12,8 +12,7 @@ returns-in_default c = search share_broken
 
 pub read-n-requires : goal.read-n-requires
 read-n-requires c =
-    let e = c.in-Held in
-    (omega (arith, told_long _ _ _ _ c.examine-seen.ensures e.one e.two e.first e.taken e.is), omega arith)
+    (omega (arith, told_long _ _ c.tally.ensures _ c.in-Ok.is), omega arith)
 
 pub tell-requires : goal.tell-requires
 tell-requires c = search first_few

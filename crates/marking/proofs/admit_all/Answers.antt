@@ -1,5 +1,6 @@
 -- `marking::admit_all` meets its contract.
 -- Assumes nothing.
+use Rattle.std.proofs.lemmas.Result.{err_from_is_err_and}
 use Rattle.std.proofs.Common.{◌≡◌, ℕ, length, ap, ◌∙◌, arith, rules}
 use lib.ListN.{length-replicate}
 use Rattle.unit.specs.Meaning.{settings_of}
@@ -20,9 +21,9 @@ overflow_add-i c = omega (arith, c.loop-i-test.true, c.requires.1)
 pub overflow_cast-i : goal.overflow_cast-i
 overflow_cast-i c = omega (arith, c.loop-i-test.true, c.requires.1)
 
-pub admit_session-step-requires : goal.admit_session-step-requires
+pub admit_session-requires : goal.admit_session-requires
 unfolding settings_of
-admit_session-step-requires c =
+admit_session-requires c =
     let start = c in
     let g = c.args in
     let l = c.loop-i in
@@ -30,26 +31,26 @@ admit_session-step-requires c =
     let sound : length g.addresses.now ≡ address_words = ap length c.requires.6 ∙ length-replicate {A = ℕ} address_words 0 in
     (search rules, c.requires.2, omega (arith, c.requires.3, l.invariant.teids.long), c.requires.4, omega (arith, c.requires.5, l.invariant.addresses.long, sound), omega arith, omega (arith, taken, c.requires.1), passing_turn (settings_of g.u) g.words.now g.addresses.now g.a.now g.n l.invariant)
 
-pub returns-in_default : goal.returns-in_default
-returns-in_default c =
+pub returns-in_err-new : goal.returns-in_err-new
+returns-in_err-new c =
     let g = c.args in
     let l = c.loop-i in
-    let t = c.admit_session-step in
-    passing_stop (settings_of g.u) g.words.now g.addresses.now g.a.now g.n l.invariant c.loop-i-test.true t.result t.new.words t.new.holders t.new.addresses t.ensures t.new.words t.new.addresses c.in_default.is
+    let t = c.admit_session in
+    rw (err_from_is_err_and c.from_residual.result c.from_residual.ensures.1).1 (passing_stop (settings_of g.u) g.words.now g.addresses.now g.a.now g.n l.invariant c.loop-i-test.true t.result t.new.words t.new.holders t.new.addresses t.ensures t.new.words t.new.addresses c.in_err-new.was)
 
 pub added-sum-requires : goal.added-sum-requires
 added-sum-requires c =
     let g = c.args in
     let l = c.loop-i in
-    let t = c.admit_session-step in
-    turn_tally (settings_of g.u) g.words.now g.addresses.now g.a.now g.n l.invariant c.loop-i-test.true t.result t.new.words t.new.holders t.new.addresses t.ensures c.in-Held.j c.in-Held.k c.in-Held.is c.requires.1
+    let t = c.admit_session in
+    turn_tally (settings_of g.u) g.words.now g.addresses.now g.a.now g.n l.invariant c.loop-i-test.true t.result t.new.words t.new.holders t.new.addresses t.ensures c.in_ok-new.new c.in_ok-new.was c.requires.1
 
 pub loop-i-preserved : goal.loop-i-preserved
 loop-i-preserved c =
     let g = c.args in
     let l = c.loop-i in
-    let t = c.admit_session-step in
-    turn_added (settings_of g.u) g.words.now g.addresses.now g.a.now g.n l.invariant c.loop-i-test.true t.result t.new.words t.new.holders t.new.addresses t.ensures c.in-Held.j c.in-Held.k _ _ _ _ c.in-Held.is c.added-sum.ensures
+    let t = c.admit_session in
+    turn_added (settings_of g.u) g.words.now g.addresses.now g.a.now g.n l.invariant c.loop-i-test.true t.result t.new.words t.new.holders t.new.addresses t.ensures c.in_ok-new.new _ c.in_ok-new.was c.added-sum.ensures
 
 pub returns : goal.returns
 returns c =

@@ -6,7 +6,7 @@ use Rattle.marking.proofs.Entering.{Passing}
 use Rattle.marking.proofs.admit_all.Given as goal
 
 abbrev pub invariant-loop-i : goal.invariant-loop-i
-invariant-loop-i l = Passing (settings_of l.u) l.initial.words l.initial.addresses l.a l.n l.words l.holders l.addresses l.i l.sum.one l.sum.two l.sum.first l.sum.taken
+invariant-loop-i l = Passing (settings_of l.u) l.initial.words l.initial.addresses l.a l.n l.words l.holders l.addresses l.i l.sum
 
 abbrev pub decreases-loop-i : goal.decreases-loop-i
 decreases-loop-i l = l.n - l.i

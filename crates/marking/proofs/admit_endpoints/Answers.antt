@@ -1,5 +1,6 @@
 -- `marking::admit_endpoints` meets its contract.
 -- Assumes nothing.
+use Rattle.std.proofs.lemmas.Result.{err_from_is_err_and}
 use Rattle.std.proofs.Common.{arith, lit≤}
 use Rattle.records.specs.Kept.{endpoint_sound}
 use Rattle.unit.specs.Meaning.{settings_of}
@@ -22,14 +23,14 @@ returns-then-id-next c =
     let ps = endpoint_places g.u.first g.words.now g.ends.now g.n in
     walk_low p endpoint_width 1 g.ends.now ps c.loop-i.invariant c.loop-i-test.true (lit≤ tt) c.read-id.result c.read-id.ensures.0 c.loop-i.words c.if-id-next.true
 
-pub returns-in_default : goal.returns-in_default
-returns-in_default c =
+pub returns-in_err-new : goal.returns-in_err-new
+returns-in_err-new c =
     let g = c.args in
     let p = endpoint_sound (settings_of g.u) in
     let ps = endpoint_places g.u.first g.words.now g.ends.now g.n in
     let l = c.loop-i in
-    let t = c.admit_endpoint-step in
-    walk_clash p endpoint_width 1 g.ends.now ps l.invariant c.loop-i-test.true t.result t.new.words (endpoint_at g.u l.words g.ends.now l.i t.result t.new.words t.ensures) c.in_default.is t.new.words
+    let t = c.admit_endpoint in
+    rw (err_from_is_err_and c.from_residual.result c.from_residual.ensures.1).1 (walk_clash p endpoint_width 1 g.ends.now ps l.invariant c.loop-i-test.true t.result t.new.words (endpoint_at g.u l.words g.ends.now l.i t.result t.new.words t.ensures) c.in_err-new.was t.new.words)
 
 pub overflow_add-new : goal.overflow_add-new
 overflow_add-new c =
@@ -37,9 +38,9 @@ overflow_add-new c =
     let p = endpoint_sound (settings_of g.u) in
     let ps = endpoint_places g.u.first g.words.now g.ends.now g.n in
     let l = c.loop-i in
-    let t = c.admit_endpoint-step in
+    let t = c.admit_endpoint in
     let key = c.read-id in
-    let more = walk_more p endpoint_width 1 g.ends.now ps l.invariant c.loop-i-test.true (lit≤ tt) key.result key.ensures.0 t.result t.new.words (endpoint_at g.u l.words g.ends.now l.i t.result t.new.words t.ensures) c.if-id-next.false c.in-New.k c.in-New.is in
+    let more = walk_more p endpoint_width 1 g.ends.now ps l.invariant c.loop-i-test.true (lit≤ tt) key.result key.ensures.0 t.result t.new.words (endpoint_at g.u l.words g.ends.now l.i t.result t.new.words t.ensures) c.if-id-next.false c.in_ok-new.field-0 c.in_ok-new.was in
     omega (arith, more.few)
 
 pub overflow_add-next : goal.overflow_add-next
@@ -51,9 +52,9 @@ loop-i-preserved c =
     let p = endpoint_sound (settings_of g.u) in
     let ps = endpoint_places g.u.first g.words.now g.ends.now g.n in
     let l = c.loop-i in
-    let t = c.admit_endpoint-step in
+    let t = c.admit_endpoint in
     let key = c.read-id in
-    walk_more p endpoint_width 1 g.ends.now ps l.invariant c.loop-i-test.true (lit≤ tt) key.result key.ensures.0 t.result t.new.words (endpoint_at g.u l.words g.ends.now l.i t.result t.new.words t.ensures) c.if-id-next.false c.in-New.k c.in-New.is
+    walk_more p endpoint_width 1 g.ends.now ps l.invariant c.loop-i-test.true (lit≤ tt) key.result key.ensures.0 t.result t.new.words (endpoint_at g.u l.words g.ends.now l.i t.result t.new.words t.ensures) c.if-id-next.false c.in_ok-new.field-0 c.in_ok-new.was
 
 pub returns-then-not-is_zero : goal.returns-then-not-is_zero
 returns-then-not-is_zero c =

@@ -1,5 +1,6 @@
 -- `marking::admit_pdrs` meets its contract.
 -- Assumes nothing.
+use Rattle.std.proofs.lemmas.Result.{err_from_is_err_and}
 use Rattle.std.proofs.Common.{arith, lit≤}
 use Rattle.records.specs.Kept.{pdr_sound, endpoint_ids}
 use Rattle.unit.specs.Meaning.{settings_of}
@@ -21,14 +22,14 @@ returns-then-id-next c =
     let ps = pdr_places g.u.first g.words.now g.pdrs.now g.n in
     walk_low p pdr_width 2 g.pdrs.now ps c.loop-i.invariant c.loop-i-test.true (lit≤ tt) c.read-id.result c.read-id.ensures.0 c.loop-i.words c.if-id-next.true
 
-pub returns-in_default : goal.returns-in_default
-returns-in_default c =
+pub returns-in_err-new : goal.returns-in_err-new
+returns-in_err-new c =
     let g = c.args in
     let p = pdr_sound (settings_of g.u) (endpoint_ids g.m g.ends.now) in
     let ps = pdr_places g.u.first g.words.now g.pdrs.now g.n in
     let l = c.loop-i in
-    let t = c.admit_pdr-step in
-    walk_clash p pdr_width 2 g.pdrs.now ps l.invariant c.loop-i-test.true t.result t.new.words t.ensures c.in_default.is t.new.words
+    let t = c.admit_pdr in
+    rw (err_from_is_err_and c.from_residual.result c.from_residual.ensures.1).1 (walk_clash p pdr_width 2 g.pdrs.now ps l.invariant c.loop-i-test.true t.result t.new.words t.ensures c.in_err-new.was t.new.words)
 
 pub overflow_add-new : goal.overflow_add-new
 overflow_add-new c =
@@ -36,9 +37,9 @@ overflow_add-new c =
     let p = pdr_sound (settings_of g.u) (endpoint_ids g.m g.ends.now) in
     let ps = pdr_places g.u.first g.words.now g.pdrs.now g.n in
     let l = c.loop-i in
-    let t = c.admit_pdr-step in
+    let t = c.admit_pdr in
     let key = c.read-id in
-    let more = walk_more p pdr_width 2 g.pdrs.now ps l.invariant c.loop-i-test.true (lit≤ tt) key.result key.ensures.0 t.result t.new.words t.ensures c.if-id-next.false c.in-New.k c.in-New.is in
+    let more = walk_more p pdr_width 2 g.pdrs.now ps l.invariant c.loop-i-test.true (lit≤ tt) key.result key.ensures.0 t.result t.new.words t.ensures c.if-id-next.false c.in_ok-new.field-0 c.in_ok-new.was in
     omega (arith, more.few)
 
 pub overflow_add-next : goal.overflow_add-next
@@ -50,9 +51,9 @@ loop-i-preserved c =
     let p = pdr_sound (settings_of g.u) (endpoint_ids g.m g.ends.now) in
     let ps = pdr_places g.u.first g.words.now g.pdrs.now g.n in
     let l = c.loop-i in
-    let t = c.admit_pdr-step in
+    let t = c.admit_pdr in
     let key = c.read-id in
-    walk_more p pdr_width 2 g.pdrs.now ps l.invariant c.loop-i-test.true (lit≤ tt) key.result key.ensures.0 t.result t.new.words t.ensures c.if-id-next.false c.in-New.k c.in-New.is
+    walk_more p pdr_width 2 g.pdrs.now ps l.invariant c.loop-i-test.true (lit≤ tt) key.result key.ensures.0 t.result t.new.words t.ensures c.if-id-next.false c.in_ok-new.field-0 c.in_ok-new.was
 
 pub returns-then-not-is_zero : goal.returns-then-not-is_zero
 returns-then-not-is_zero c =

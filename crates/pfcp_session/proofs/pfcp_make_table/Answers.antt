@@ -1,10 +1,10 @@
 -- `pfcp_session::pfcp_make_table` meets its contract.
 -- Assumes nothing.
-use Rattle.pfcp_session.proofs.CallLaws.{call_made, call_refused}
+use Rattle.pfcp_session.proofs.CallLaws.{call_answer}
 use Rattle.pfcp_session.proofs.pfcp_make_table.Goals as goal
 
-pub returns-in-Made : goal.returns-in-Made
-returns-in-Made c = search call_made
+pub returns-in-Ok : goal.returns-in-Ok
+returns-in-Ok c = call_answer _ _ _ c.in-Ok.ensures
 
-pub returns-in-Refused : goal.returns-in-Refused
-returns-in-Refused c = search call_refused
+pub returns-in-Err : goal.returns-in-Err
+returns-in-Err c = call_answer _ _ _ c.in-Err.ensures

@@ -10,6 +10,7 @@ use Rattle.octets.proofs.Digits.{octets_known}
 use Rattle.octets.proofs.Put.{length_part}
 use Rattle.rules.specs.Limits.{map_words}
 use Rattle.rules.specs.Layout.{head_width}
+use Rattle.std.proofs.lemmas.Result.{err_from_is_err_and}
 use Rattle.table.proofs.Examining.{front_facts, examined_short, examined_broken, walk_broken, walk_first, peers_broken, examined_walk}
 use Rattle.table.proofs.examine.Goals as goal
 
@@ -22,8 +23,8 @@ returns-then-not-front_sound c =
     let o : T (octets t) = octets_known t (λ i. (c.type_inv.t i).fits) in
     search examined_broken
 
-pub admit_all-walked-requires : goal.admit_all-walked-requires
-admit_all-walked-requires c =
+pub admit_all-requires : goal.admit_all-requires
+admit_all-requires c =
     let start = c in
     let t = c.args.t.now in
     let read = c.read-u in
@@ -34,26 +35,26 @@ admit_all-walked-requires c =
     let room : length (part head_width (length t - head_width) t) ≡ length t - head_width = length_part head_width (length t - head_width) t (omega (arith, known.long)) in
     (omega (arith, n, known.few, known.long, room), omega (arith, n, known.few, known.room), known.pool, omega (arith, known.size, words), known.last, known.count, c.requires.1)
 
-pub returns-in_default : goal.returns-in_default
-returns-in_default c =
+pub returns-in_err-held : goal.returns-in_err-held
+returns-in_err-held c =
     let t = c.args.t.now in
     let o : T (octets t) = octets_known t (λ i. (c.type_inv.t i).fits) in
-    search walk_broken
+    rw (err_from_is_err_and c.from_residual.result c.from_residual.ensures.1).1 (walk_broken _ o _ c.front_sound.ensures c.if-not-front_sound.false-raw _ c.read-u.ensures _ _ _ _ _ _ c.read-n.ensures.0 c.requires.0 c.requires.1 c.admit_all.ensures c.in_err-held.was)
 
 pub overflow_sub-n : goal.overflow_sub-n
 overflow_sub-n c =
     let t = c.args.t.now in
     let o : T (octets t) = octets_known t (λ i. (c.type_inv.t i).fits) in
-    search walk_first
+    walk_first _ o _ c.front_sound.ensures c.if-not-front_sound.false-raw _ c.read-u.ensures _ _ _ _ _ _ c.read-n.ensures.0 c.requires.0 c.requires.1 c.admit_all.ensures _ c.in_ok-held.was
 
 pub returns-then-not-peers_fit : goal.returns-then-not-peers_fit
 returns-then-not-peers_fit c =
     let t = c.args.t.now in
     let o : T (octets t) = octets_known t (λ i. (c.type_inv.t i).fits) in
-    search peers_broken
+    peers_broken _ o _ c.front_sound.ensures c.if-not-front_sound.false-raw _ c.read-u.ensures _ _ _ _ _ _ c.read-n.ensures.0 c.requires.0 c.requires.1 c.admit_all.ensures _ c.in_ok-held.was _ c.peers_fit.ensures c.if-not-peers_fit.true-raw
 
 pub returns : goal.returns
 returns c =
     let t = c.args.t.now in
     let o : T (octets t) = octets_known t (λ i. (c.type_inv.t i).fits) in
-    search examined_walk
+    examined_walk _ o _ c.front_sound.ensures c.if-not-front_sound.false-raw _ c.read-u.ensures _ _ _ _ _ _ c.read-n.ensures.0 c.requires.0 c.requires.1 c.admit_all.ensures _ c.in_ok-held.was _ c.peers_fit.ensures c.if-not-peers_fit.false-raw

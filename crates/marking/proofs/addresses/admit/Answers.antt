@@ -1,5 +1,6 @@
 -- `marking::addresses::admit` meets its contract.
 -- Assumes nothing.
+use Rattle.std.proofs.lemmas.Result.{err_from_is_err_and}
 use Rattle.std.proofs.Common.{◌*◌, T, arith, lit≤}
 use Rattle.octets.specs.Octets.{octets}
 use Rattle.octets.proofs.Digits.{octets_known}
@@ -15,9 +16,9 @@ use Rattle.marking.proofs.addresses.admit.Goals as goal
 pub overflow_cast-m : goal.overflow_cast-m
 overflow_cast-m c = omega (arith, c.type_inv.slot 10)
 
-pub claim_all-ends-requires : goal.claim_all-ends-requires
+pub claim_all-requires : goal.claim_all-requires
 unfolding settings_of
-claim_all-ends-requires c =
+claim_all-requires c =
     let start = c in
     let g = c.args in
     let xs = g.slot.now in
@@ -25,45 +26,45 @@ claim_all-ends-requires c =
     let counts = counts_headed xs (sound_head (settings_of g.u) xs c.requires.1) in
     (omega (arith, counts.endpoints, length_part endpoints_at (max_endpoints * endpoint_width) xs (omega (arith, c.requires.0))), lit≤ tt, c.requires.3, c.requires.4, c.requires.5, c.requires.6, later g.turn g.u.addresses g.holders.now g.words.now c.requires.7, present_endpoints (settings_of g.u) c.requires.2 xs c.requires.0 o c.requires.1)
 
-pub returns-in_default : goal.returns-in_default
+pub returns-in_err-e : goal.returns-in_err-e
 unfolding settings_of
-returns-in_default c =
+returns-in_err-e c =
     let start = c in
     let g = c.args in
-    let ends = c.claim_all-ends in
-    slot_ends (settings_of g.u) g.turn g.holders.now g.words.now g.slot.now (sound_head (settings_of g.u) g.slot.now c.requires.1) c.requires.5 c.requires.7 ends.result ends.new.holders ends.new.words ends.ensures c.in_default.is
+    let ends = c.claim_all in
+    rw (err_from_is_err_and c.from_residual.result c.from_residual.ensures.1).1 (slot_ends (settings_of g.u) g.turn g.holders.now g.words.now g.slot.now (sound_head (settings_of g.u) g.slot.now c.requires.1) c.requires.5 c.requires.7 ends.result ends.new.holders ends.new.words ends.ensures c.in_err-e.was)
 
 pub overflow_cast-n : goal.overflow_cast-n
 overflow_cast-n c = omega (arith, c.type_inv.slot 9)
 
-pub claim_all-pdrs-requires : goal.claim_all-pdrs-requires
+pub claim_all-requires-2 : goal.claim_all-requires-2
 unfolding settings_of
-claim_all-pdrs-requires c =
+claim_all-requires-2 c =
     let start = c in
     let g = c.args in
     let xs = g.slot.now in
     let o : T (octets xs) = octets_known xs (λ i. (c.type_inv.slot i).fits) in
-    let ends = c.claim_all-ends in
+    let ends = c.claim_all in
     let counts = counts_headed xs (sound_head (settings_of g.u) xs c.requires.1) in
-    (omega (arith, counts.pdrs, length_part pdrs_at (max_pdrs * pdr_width) xs (omega (arith, c.requires.0))), lit≤ tt, c.requires.3, omega (arith, c.requires.4, area_long ends.ensures c.in-New.e c.in-New.is), c.requires.5, c.requires.6, ends.ensures.agrees c.in-New.e c.in-New.is, present_pdrs (settings_of g.u) c.requires.2 xs c.requires.0 o c.requires.1)
+    (omega (arith, counts.pdrs, length_part pdrs_at (max_pdrs * pdr_width) xs (omega (arith, c.requires.0))), lit≤ tt, c.requires.3, omega (arith, c.requires.4, area_long ends.ensures c.in_ok-e.e c.in_ok-e.was), c.requires.5, c.requires.6, ends.ensures.agrees c.in_ok-e.e c.in_ok-e.was, present_pdrs (settings_of g.u) c.requires.2 xs c.requires.0 o c.requires.1)
 
-pub returns-in_default-pdrs : goal.returns-in_default-pdrs
+pub returns-in_err-p : goal.returns-in_err-p
 unfolding settings_of
-returns-in_default-pdrs c =
+returns-in_err-p c =
     let start = c in
     let g = c.args in
-    let ends = c.claim_all-ends in
-    let pdrs = c.claim_all-pdrs in
-    slot_pdrs (settings_of g.u) g.turn g.holders.now g.words.now g.slot.now (sound_head (settings_of g.u) g.slot.now c.requires.1) c.requires.5 c.requires.7 ends.result ends.new.holders ends.new.words ends.ensures c.in-New.e c.in-New.is pdrs.result pdrs.new.holders pdrs.new.words pdrs.ensures c.in_default-pdrs.is
+    let ends = c.claim_all in
+    let pdrs = c.claim_all-2 in
+    rw (err_from_is_err_and c.from_residual-in_err-p.result c.from_residual-in_err-p.ensures.1).1 (slot_pdrs (settings_of g.u) g.turn g.holders.now g.words.now g.slot.now (sound_head (settings_of g.u) g.slot.now c.requires.1) c.requires.5 c.requires.7 ends.result ends.new.holders ends.new.words ends.ensures c.in_ok-e.e c.in_ok-e.was pdrs.result pdrs.new.holders pdrs.new.words pdrs.ensures c.in_err-p.was)
 
 pub overflow_add-result : goal.overflow_add-result
 unfolding settings_of
 overflow_add-result c =
     let start = c in
     let g = c.args in
-    let ends = c.claim_all-ends in
-    let pdrs = c.claim_all-pdrs in
-    let few = slot_few (settings_of g.u) g.turn g.holders.now g.words.now g.slot.now (sound_head (settings_of g.u) g.slot.now c.requires.1) c.requires.5 c.requires.7 ends.result ends.new.holders ends.new.words ends.ensures c.in-New.e c.in-New.is pdrs.result pdrs.new.holders pdrs.new.words pdrs.ensures c.in-New-pdrs.p c.in-New-pdrs.is in
+    let ends = c.claim_all in
+    let pdrs = c.claim_all-2 in
+    let few = slot_few (settings_of g.u) g.turn g.holders.now g.words.now g.slot.now (sound_head (settings_of g.u) g.slot.now c.requires.1) c.requires.5 c.requires.7 ends.result ends.new.holders ends.new.words ends.ensures c.in_ok-e.e c.in_ok-e.was pdrs.result pdrs.new.holders pdrs.new.words pdrs.ensures c.in_ok-p.p c.in_ok-p.was in
     omega (arith, few)
 
 pub returns : goal.returns
@@ -71,6 +72,6 @@ unfolding settings_of
 returns c =
     let start = c in
     let g = c.args in
-    let ends = c.claim_all-ends in
-    let pdrs = c.claim_all-pdrs in
-    slot_whole (settings_of g.u) g.turn g.holders.now g.words.now g.slot.now (sound_head (settings_of g.u) g.slot.now c.requires.1) c.requires.5 c.requires.7 ends.result ends.new.holders ends.new.words ends.ensures c.in-New.e c.in-New.is pdrs.result pdrs.new.holders pdrs.new.words pdrs.ensures c.in-New-pdrs.p c.in-New-pdrs.is
+    let ends = c.claim_all in
+    let pdrs = c.claim_all-2 in
+    slot_whole (settings_of g.u) g.turn g.holders.now g.words.now g.slot.now (sound_head (settings_of g.u) g.slot.now c.requires.1) c.requires.5 c.requires.7 ends.result ends.new.holders ends.new.words ends.ensures c.in_ok-e.e c.in_ok-e.was pdrs.result pdrs.new.holders pdrs.new.words pdrs.ensures c.in_ok-p.p c.in_ok-p.was

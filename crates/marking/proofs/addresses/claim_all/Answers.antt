@@ -1,5 +1,6 @@
 -- `marking::addresses::claim_all` meets its contract.
 -- Assumes nothing.
+use Rattle.std.proofs.lemmas.Result.{err_from_is_err_and}
 use Rattle.std.proofs.Common.{le_refl, arith, rules}
 use Rattle.areas.proofs.Rows.{row_within_lem}
 use Rattle.unit.specs.Meaning.{settings_of}
@@ -33,22 +34,22 @@ holder_of-p-requires c =
     let g = c.args in
     (search rules, c.requires.2, there_at (settings_of g.u) g.w g.at g.a.now g.n c.requires.7 c.loop-i.i c.loop-i-test.true)
 
-pub claim-step-requires : goal.claim-step-requires
+pub claim-requires : goal.claim-requires
 unfolding settings_of
-claim-step-requires c =
+claim-requires c =
     let start = c in
     let g = c.args in
     let held = c.holder_of-p in
     claiming_here (settings_of g.u) g.w g.at g.a.now g.n g.turn g.holders.now g.words.now c.requires.4 c.requires.5 c.requires.3 c.loop-i.invariant c.loop-i-test.true held.result held.ensures
 
-pub returns-in_default : goal.returns-in_default
+pub returns-in_err-new : goal.returns-in_err-new
 unfolding settings_of
-returns-in_default c =
+returns-in_err-new c =
     let start = c in
     let g = c.args in
     let held = c.holder_of-p in
-    let t = c.claim-step in
-    claiming_clash (settings_of g.u) g.w g.at g.a.now g.n g.turn g.holders.now g.words.now c.requires.4 c.requires.5 c.requires.3 c.loop-i.invariant c.loop-i-test.true held.result held.ensures t.result t.new.holders t.new.words t.ensures c.in_default.is
+    let t = c.claim in
+    rw (err_from_is_err_and c.from_residual.result c.from_residual.ensures.1).1 (claiming_clash (settings_of g.u) g.w g.at g.a.now g.n g.turn g.holders.now g.words.now c.requires.4 c.requires.5 c.requires.3 c.loop-i.invariant c.loop-i-test.true held.result held.ensures t.result t.new.holders t.new.words t.ensures c.in_err-new.was)
 
 pub overflow_add-new : goal.overflow_add-new
 unfolding settings_of
@@ -56,8 +57,8 @@ overflow_add-new c =
     let start = c in
     let g = c.args in
     let held = c.holder_of-p in
-    let t = c.claim-step in
-    let next = claiming_more (settings_of g.u) g.w g.at g.a.now g.n g.turn g.holders.now g.words.now c.requires.4 c.requires.5 c.requires.3 c.loop-i.invariant c.loop-i-test.true held.result held.ensures t.result t.new.holders t.new.words t.ensures c.in-New.k c.in-New.is in
+    let t = c.claim in
+    let next = claiming_more (settings_of g.u) g.w g.at g.a.now g.n g.turn g.holders.now g.words.now c.requires.4 c.requires.5 c.requires.3 c.loop-i.invariant c.loop-i-test.true held.result held.ensures t.result t.new.holders t.new.words t.ensures c.in_ok-new.field-0 c.in_ok-new.was in
     omega (arith, next.few, c.loop-i-test.true)
 
 pub loop-i-preserved : goal.loop-i-preserved
@@ -66,8 +67,8 @@ loop-i-preserved c =
     let start = c in
     let g = c.args in
     let held = c.holder_of-p in
-    let t = c.claim-step in
-    claiming_more (settings_of g.u) g.w g.at g.a.now g.n g.turn g.holders.now g.words.now c.requires.4 c.requires.5 c.requires.3 c.loop-i.invariant c.loop-i-test.true held.result held.ensures t.result t.new.holders t.new.words t.ensures c.in-New.k c.in-New.is
+    let t = c.claim in
+    claiming_more (settings_of g.u) g.w g.at g.a.now g.n g.turn g.holders.now g.words.now c.requires.4 c.requires.5 c.requires.3 c.loop-i.invariant c.loop-i-test.true held.result held.ensures t.result t.new.holders t.new.words t.ensures c.in_ok-new.field-0 c.in_ok-new.was
 
 pub returns : goal.returns
 unfolding settings_of
