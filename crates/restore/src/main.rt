@@ -5,5 +5,8 @@
 use std::process::ExitCode;
 
 fn main(rt: HostRuntime) -> ExitCode {
-    ExitCode::from(restoring::pfcp_restore(&rt, &rt.stderr()))
+    match restoring::pfcp_restore(&rt, &rt.stderr()) {
+        Ok(()) => ExitCode::SUCCESS,
+        Err(failure) => failure.into(),
+    }
 }
