@@ -1,55 +1,66 @@
 -- Octets at places with one distance, and parts that follow one another, tested for zero together. Assumes nothing.
-use mathlib.Core.Bool.{Bool, true, false, ◌&&◌}
-use mathlib.Core.List.{List}
+use mathlib.Core.Bool.{Bool, true, ◌&&◌}
+use mathlib.Core.List.{List, [], ◌∷◌}
 use mathlib.Core.Path.{◌≡◌, refl, sym, ap, ap₂, ◌∙◌}
 use Prim.Native.Nat.{ℕ, zero, suc, ◌+◌, ◌-◌, ◌*◌, ◌≤◌, ◌<◌}
 use native.Mathlib.Nat.{zero-mul, suc-mul}
 use native.Mathlib.Omega.{arith}
 use lib.Dec.{eqb}
-use lib.ListN.{length, get_or}
-use Rattle.octets.specs.Octets.{part, all_zero, zero_apart}
-use Rattle.octets.proofs.Bools.{and-true, and_assoc, and_four}
-use Rattle.octets.proofs.Parts.{zero_first}
+use lib.ListN.{length, get_or, take, drop, length-drop}
+use lib.Seq.{take-suc, get_or-drop}
+use native.Mathlib.Numerals.{add-one}
+use Rattle.std.specs.Int.Bits.{bit_or}
+use Rattle.octets.specs.Octets.{part, all_zero}
+use Rattle.octets.proofs.Bools.{and-true, and_assoc, and_four, or_zero}
 use Rattle.octets.proofs.Put.{part_two}
 use Rattle.octets.proofs.FieldLaws.{zero_append}
 
--- j places and then k more
-apart_more : (j k q at : ℕ) (s : List ℕ) → zero_apart (j + k) q at s ≡ (zero_apart j q at s && zero_apart k q (at + j * q) s)
+-- one octet more, of the front of a list and of a part
+pub zero_more : (xs : List ℕ) (i : ℕ) → i < length xs → all_zero (take (i + 1) xs) ≡ (all_zero (take i xs) && eqb (get_or xs i 0) 0)
+unfolding all_zero
+zero_more xs i h =
+    rw (add-one, take-suc xs i 0 h)
+    (zero_append (take i xs) (get_or xs i 0 ∷ []) ∙ ap (λ (t : Bool). all_zero (take i xs) && t) (and-true (eqb (get_or xs i 0) 0)))
+
+zero_last : (at n : ℕ) (s : List ℕ) → at + n < length s → all_zero (part at (n + 1) s) ≡ (all_zero (part at n s) && eqb (get_or s (at + n) 0) 0)
+zero_last at n s h = rw get_or-drop at (zero_more (drop at s) n (omega (arith, length-drop at s)))
+
+-- a turn: what is 0 so far, and one octet more
+pub one_more : (any x r : ℕ) (before : Bool) → eqb any 0 ≡ before → r ≡ x → eqb (bit_or any r) 0 ≡ (before && eqb x 0)
+one_more any x r before e f = or_zero any r ∙ ap₂ (λ (t : Bool) (n : ℕ). t && eqb n 0) e f
+
+-- whether the octets at k places are zero, each place q after the one before
+unfoldable pub zero_apart : ℕ → ℕ → ℕ → List ℕ → Bool
+zero_apart zero q at s = true
+zero_apart (suc k) q at s = eqb (get_or s at 0) 0 && zero_apart k q (at + q) s
+
+-- one place more, behind them
+pub apart_last : (k q at : ℕ) (s : List ℕ) → zero_apart (suc k) q at s ≡ (zero_apart k q at s && eqb (get_or s (at + k * q) 0) 0)
 unfolding zero_apart
-apart_more zero k q at s =
-    let a : 0 + k ≡ k = omega arith in
+apart_last zero q at s =
     let b : at + 0 * q ≡ at = omega arith in
-    rw (a, b)
-apart_more (suc j) k q at s =
-    let a : suc j + k ≡ suc (j + k) = omega arith in
-    let m : suc j * q ≡ j * q + q = suc-mul j q in
-    let b : at + suc j * q ≡ at + q + j * q = omega arith in
-    rw (a, b)
-    (ap (λ (t : Bool). eqb (get_or s at 0) 0 && t) (apart_more j k q (at + q) s)
-    ∙ sym (and_assoc (eqb (get_or s at 0) 0) (zero_apart j q (at + q) s) (zero_apart k q (at + q + j * q) s)))
-
--- the greatest of two octets, and of the greatest of earlier and of later ones
-pub two_apart : (q at r : ℕ) (s : List ℕ) → eqb r 0 ≡ (eqb (get_or s at 0) 0 && eqb (get_or s (at + q) 0) 0) → eqb r 0 ≡ zero_apart 2 q at s
-unfolding zero_apart
-two_apart q at r s e = e ∙ ap (λ (t : Bool). eqb (get_or s at 0) 0 && t) (sym (and-true (eqb (get_or s (at + q) 0) 0)))
-
-pub more_apart : (j k q at : ℕ) (s : List ℕ) (a b r : ℕ) → eqb a 0 ≡ zero_apart j q at s → eqb b 0 ≡ zero_apart k q (at + j * q) s → eqb r 0 ≡ (eqb a 0 && eqb b 0) → eqb r 0 ≡ zero_apart (j + k) q at s
-more_apart j k q at s a b r e f g = g ∙ ap₂ ◌&&◌ e f ∙ sym (apart_more j k q at s)
+    rw b (and-true (eqb (get_or s at 0) 0))
+apart_last (suc k) q at s =
+    let m : suc k * q ≡ k * q + q = suc-mul k q in
+    let b : at + suc k * q ≡ at + q + k * q = omega arith in
+    rw b
+    (ap (λ (t : Bool). eqb (get_or s at 0) 0 && t) (apart_last k q (at + q) s)
+    ∙ sym (and_assoc (eqb (get_or s at 0) 0) (zero_apart k q (at + q) s) (eqb (get_or s (at + q + k * q) 0) 0)))
 
 -- k parts of n octets, each q after the one before
 unfoldable pub zero_parts : ℕ → ℕ → ℕ → ℕ → List ℕ → Bool
 zero_parts zero q at n s = true
 zero_parts (suc k) q at n s = all_zero (part at n s) && zero_parts k q (at + q) n s
 
--- the first octet of each comes off
-pub parts_first : (k q at n : ℕ) (s : List ℕ) → 0 < n → at + n + k * q ≤ length s + q → zero_parts k q at n s ≡ (zero_apart k q at s && zero_parts k q (at + 1) (n - 1) s)
+-- one octet more of each
+pub parts_last : (k q at n : ℕ) (s : List ℕ) → at + n + k * q < length s + q → zero_parts k q at (n + 1) s ≡ (zero_parts k q at n s && zero_apart k q (at + n) s)
 unfolding zero_parts zero_apart
-parts_first zero q at n s p h = refl
-parts_first (suc k) q at n s p h =
+parts_last zero q at n s h = refl
+parts_last (suc k) q at n s h =
     let m : suc k * q ≡ k * q + q = suc-mul k q in
-    let e : at + q + 1 ≡ at + 1 + q = omega arith in
-    ap₂ ◌&&◌ (zero_first at n s p (omega arith)) (parts_first k q (at + q) n s p (omega arith) ∙ rw e)
-    ∙ and_four (eqb (get_or s at 0) 0) (all_zero (part (at + 1) (n - 1) s)) (zero_apart k q (at + q) s) (zero_parts k q (at + 1 + q) (n - 1) s)
+    let e : at + n + q ≡ at + q + n = omega arith in
+    ap₂ ◌&&◌ (zero_last at n s (omega arith)) (parts_last k q (at + q) n s (omega arith))
+    ∙ rw e (and_four (all_zero (part at n s)) (eqb (get_or s (at + n) 0) 0) (zero_parts k q (at + q) n s) (zero_apart k q (at + q + n) s))
 
 -- none of them has an octet
 pub parts_none : (k q at : ℕ) (s : List ℕ) → zero_parts k q at 0 s ≡ true
@@ -69,31 +80,21 @@ parts_whole (suc k) q at s =
     ∙ ap all_zero (part_two at q (k * q) s)
     ∙ sym (ap (λ (n : ℕ). all_zero (part at n s)) e)
 
-turned : (b c r : Bool) → ((b && c) && r) ≡ (c && (b && r))
-turned true true r = refl
-turned true false r = refl
-turned false true r = refl
-turned false false r = refl
-
--- a turn: r is the greatest of what came before and of the first octets of the parts
-pub turn_apart : (k q from left top g r : ℕ) (s : List ℕ) (whole : Bool) → 0 < left → from + left + k * q ≤ length s + q → eqb g 0 ≡ zero_apart k q from s → eqb r 0 ≡ (eqb g 0 && eqb top 0)
-    → (eqb top 0 && zero_parts k q from left s) ≡ whole → (eqb r 0 && zero_parts k q (from + 1) (left - 1) s) ≡ whole
-turn_apart k q from left top g r s whole p h e f i =
-    let rest = zero_parts k q (from + 1) (left - 1) s in
-    ap (λ (t : Bool). t && rest) f
-    ∙ turned (eqb g 0) (eqb top 0) rest
-    ∙ ap (λ (t : Bool). eqb top 0 && (t && rest)) e
-    ∙ ap (λ (t : Bool). eqb top 0 && t) (sym (parts_first k q from left s p h))
-    ∙ i
+-- a turn of the loop over the eighths
+pub apart_turn : (k q at i any : ℕ) (s : List ℕ) (before : Bool) → eqb any 0 ≡ (before && zero_apart k q (at + i) s)
+    → eqb (bit_or any (get_or s (at + k * q + i) 0)) 0 ≡ (before && zero_apart (k + 1) q (at + i) s)
+apart_turn k q at i any s before h =
+    let e : at + k * q + i ≡ at + i + k * q = omega arith in
+    rw (add-one, apart_last k q (at + i) s, e)
+    (one_more any (get_or s (at + i + k * q) 0) (get_or s (at + i + k * q) 0) (before && zero_apart k q (at + i) s) h refl
+    ∙ and_assoc before (zero_apart k q (at + i) s) (eqb (get_or s (at + i + k * q) 0) 0))
 
 -- the end: what the turns found, and the octets that are left
-pub long_ends : (q at n from left top : ℕ) (s : List ℕ) → 8 * q ≤ n → left ≡ 0 → (eqb top 0 && zero_parts 8 q from left s) ≡ zero_parts 8 q at q s
-    → all_zero (part at n s) ≡ (eqb top 0 && all_zero (part (at + 8 * q) (n - 8 * q) s))
-long_ends q at n from left top s h z i =
+pub long_ends : (q at n i any : ℕ) (s : List ℕ) → 8 * q ≤ n → i ≡ q → eqb any 0 ≡ zero_parts 8 q at i s
+    → all_zero (part at n s) ≡ (eqb any 0 && all_zero (part (at + 8 * q) (n - 8 * q) s))
+long_ends q at n i any s h z f =
     let e : n ≡ 8 * q + (n - 8 * q) = omega arith in
-    let front : all_zero (part at (8 * q) s) ≡ eqb top 0 =
-    sym (parts_whole 8 q at s) ∙ sym i ∙ ap (λ (k : ℕ). eqb top 0 && zero_parts 8 q from k s) z ∙ ap (λ (t : Bool). eqb top 0 && t) (parts_none 8 q from s) ∙ and-true (eqb top 0) in
     ap (λ (k : ℕ). all_zero (part at k s)) e
     ∙ ap all_zero (sym (part_two at (8 * q) (n - 8 * q) s))
     ∙ zero_append (part at (8 * q) s) (part (at + 8 * q) (n - 8 * q) s)
-    ∙ ap (λ (t : Bool). t && all_zero (part (at + 8 * q) (n - 8 * q) s)) front
+    ∙ ap (λ (t : Bool). t && all_zero (part (at + 8 * q) (n - 8 * q) s)) (sym (parts_whole 8 q at s) ∙ ap (λ (k : ℕ). zero_parts 8 q at k s) (sym z) ∙ sym f)

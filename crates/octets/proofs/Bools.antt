@@ -1,11 +1,15 @@
 -- Laws of tests joined by `and` and `or`, of use to every crate. Assumes nothing.
-use mathlib.Core.Path.{◌≡◌, refl, sym, ◌∙◌}
+use mathlib.Core.Path.{◌≡◌, refl, sym, ◌∙◌, ap}
 use mathlib.Core.Bool.{Bool, true, false, not, ◌&&◌, ◌||◌}
 use Prim.Native.Nat.{ℕ, zero, suc, ◌<◌}
+use native.Mathlib.Nat.{suc-ne-zero}
 use native.Mathlib.Omega.{arith}
 use native.Mathlib.Decide.{ℕ_discrete}
 use borrow.Author.Tests.{eq-eqb, ne_eqb}
 use lib.Dec.{T, eqb}
+use Rattle.std.specs.Int.{bit_at}
+use Rattle.std.specs.Int.Bits.{bit_or, or_zero_l}
+use Rattle.std.proofs.lemmas.Nat.Bits.{bit_at_or, bit_at-zero, same_from_bits}
 use Rattle.octets.specs.Choice.{flag, same_bool}
 
 -- two tests that follow from each other are one
@@ -88,3 +92,11 @@ same_bit (suc zero) (suc zero) h k = refl
 same_bit zero (suc (suc n)) h k = absurd (omega arith)
 same_bit (suc zero) (suc (suc n)) h k = absurd (omega arith)
 same_bit (suc (suc m)) n h k = absurd (omega arith)
+
+-- two numbers joined bit by bit are 0 exactly if both are
+pub or_zero : (a b : ℕ) → eqb (bit_or a b) 0 ≡ (eqb a 0 && eqb b 0)
+or_zero zero b = ap (λ (n : ℕ). eqb n 0) (or_zero_l b)
+or_zero (suc a) b = ne_eqb (bit_or (suc a) b) 0 (λ e. absurd (suc-ne-zero a (none e))) ∙ ap (λ (t : Bool). t && eqb b 0) (sym (ne_eqb (suc a) 0 (suc-ne-zero a)))
+  where
+    none : bit_or (suc a) b ≡ 0 → suc a ≡ 0
+    none e = same_from_bits (suc a) 0 (λ i. let h : bit_at (bit_or (suc a) b) i ≡ bit_at 0 i = ap (λ (n : ℕ). bit_at n i) e in omega (arith, bit_at_or (suc a) b i, bit_at-zero i))

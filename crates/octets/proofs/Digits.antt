@@ -3,19 +3,20 @@ use mathlib.Core.Bool.{Bool, true, false}
 use mathlib.Core.List.{List, [], ◌∷◌, ◌++◌, append-nil}
 use mathlib.Core.Path.{◌≡◌, refl, sym, ap, ◌∙◌}
 use Prim.Native.Nat.{ℕ, zero, suc, ◌+◌, ◌-◌, ◌*◌, ◌/◌, ◌%◌, ◌^◌, ◌≤◌, ◌<◌}
-use native.Mathlib.Nat.{add-zero, pow-suc, not-suc-le-zero, lt_of_lt_of_le, pow-le-pow_right}
+use native.Mathlib.Nat.{add-zero, pow-suc, not-suc-le-zero, lt_of_lt_of_le, pow-le-pow_right, one-le-pow, div-eq_of_lt, lt-div-mul-add}
 use native.Mathlib.Omega.{arith}
-use borrow.Author.Tests.{ne_eqb, lt-ltb, le-ltb, ltb-true, ltb-false}
+use borrow.Author.Tests.{eq-eqb, ne_eqb, lt-ltb, ltb-true, ltb-false}
 use lib.Dec.{eqb, ltb, lit<}
 use lib.ListN.{length, get_or, take, drop}
-use lib.Seq.{append_snoc}
+use lib.Pow.{pow-add}
+use lib.Seq.{append_snoc, take-suc}
+use native.Mathlib.Numerals.{add-one}
 use Rattle.octets.specs.Octets.{part, be, number}
 use native.Mathlib.Nat.{mod-eq_of_lt, add_assoc, add-mul, mul_assoc, mul_comm, mul-one, zero-mul, zero-add, div-div-eq-div-mul, div-one}
 use lib.Pow.{are_bytes}
 use lib.Dec.{T, ltb→lt, lt→ltb}
 use Rattle.octets.specs.Octets.{octets}
 use Rattle.octets.proofs.Tests.{and_left, and_right, both}
-use Rattle.octets.proofs.Parts.{part_first}
 use Rattle.octets.proofs.Put.{length_part}
 
 -- the number with v before the octets, as a loop over the octets has it
@@ -80,24 +81,42 @@ grows v x k h l = rw pow-suc (omega arith)
 pub grows_fits : (v x k : ℕ) → v < 256 ^ k → x < 256 → k < 8 → v * 256 + x < 2 ^ 64
 grows_fits v x k h l p = lt_of_lt_of_le (grows v x k h l) (pow-le-pow_right (lit< tt) p)
 
-same_test : (a b c d : ℕ) (t : Bool) → ltb a b ≡ t → (a < b → c < d) → (b ≤ a → d ≤ c) → t ≡ ltb c d
-same_test a b c d true e f g = sym (lt-ltb c d (f (ltb-true a b e)))
-same_test a b c d false e f g = sym (le-ltb c d (g (ltb-false a b e)))
+-- a number without its n last octets is 0 exactly if it has at most n
+power : (n : ℕ) → 2 ^ (8 * n) ≡ 256 ^ n
+power zero = refl
+power (suc n) =
+    let e : 8 * suc n ≡ 8 * n + 8 = omega arith in
+    rw (e, pow-add 2 (8 * n) 8, power n, pow-suc 256 n)
 
--- a turn of the loop that takes octets off a number
-pub fits_turn : (n v : ℕ) → 0 < n → ltb (v / 256) (256 ^ (n - 1)) ≡ ltb v (256 ^ n)
-fits_turn zero v p = absurd (not-suc-le-zero p)
-fits_turn (suc n) v p =
-    let e : suc n - 1 ≡ n = omega arith in
-    rw (e, pow-suc 256 n) (same_test (v / 256) (256 ^ n) v (256 ^ n * 256) _ refl (λ h. omega arith) (λ h. omega arith))
+none_left : (v p : ℕ) → 0 < p → eqb (v / p) 0 ≡ ltb v p
+none_left v p h = go (ltb v p) refl
+  where
+    go : (b : Bool) → ltb v p ≡ b → eqb (v / p) 0 ≡ b
+    go true e = eq-eqb (v / p) 0 (div-eq_of_lt (ltb-true v p e))
+    go false e = ne_eqb (v / p) 0 (λ q. let l : v < 0 * p + p = rw q at (lt-div-mul-add {a = v} h) in absurd (omega (arith, ltb-false v p e)))
 
-pub fits_none : (n v : ℕ) → n ≡ 0 → ltb v (256 ^ n) ≡ eqb v 0
-fits_none n zero e = rw e
-fits_none n (suc v) e = rw e (le-ltb (suc v) 1 (omega arith) ∙ sym (ne_eqb (suc v) 0 (λ q. omega arith)))
+pub fits_shifted : (v n : ℕ) → eqb (v / 2 ^ (8 * n)) 0 ≡ ltb v (256 ^ n)
+fits_shifted v n = rw (power n) (none_left v (256 ^ n) (one-le-pow n 256 (lit< tt)))
 
-pub number_first : (v at n : ℕ) (s : List ℕ) → 0 < n → at + n ≤ length s → number_after v (part at n s) ≡ number_after (v * 256 + get_or s at 0) (part (at + 1) (n - 1) s)
+-- a number of the machine has at most 8
+pub fits_all : (v n : ℕ) → v < 2 ^ 64 → 8 ≤ n → ltb v (256 ^ n) ≡ true
+fits_all v n h l = lt-ltb v (256 ^ n) (lt_of_lt_of_le h (pow-le-pow_right (lit< tt) l))
+
+after_snoc : (v : ℕ) (xs : List ℕ) (x : ℕ) → number_after v (xs ++ (x ∷ [])) ≡ number_after v xs * 256 + x
 unfolding number_after
-number_first v at n s p h = rw (part_first at n s p h)
+after_snoc v [] x = refl
+after_snoc v (y ∷ xs) x = after_snoc (v * 256 + y) xs x
+
+-- one octet more behind a number
+pub number_snoc : (xs : List ℕ) (x : ℕ) → number (xs ++ (x ∷ [])) ≡ number xs * 256 + x
+number_snoc xs x = sym (from_zero (xs ++ (x ∷ []))) ∙ after_snoc 0 xs x ∙ ap (λ (n : ℕ). n * 256 + x) (from_zero xs)
+
+pub number_none : number [] ≡ 0
+unfolding number
+number_none = refl
+
+pub number_more : (xs : List ℕ) (i : ℕ) → i < length xs → number (take (i + 1) xs) ≡ number (take i xs) * 256 + get_or xs i 0
+number_more xs i h = rw (add-one, take-suc xs i 0 h) (number_snoc (take i xs) (get_or xs i 0))
 
 below_after : (xs : List ℕ) (k v : ℕ) → T (octets xs) → v < 256 ^ k → number_after v xs < 256 ^ (k + length xs)
 unfolding number_after

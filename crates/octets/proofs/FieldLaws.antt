@@ -11,6 +11,8 @@ use lib.Dec.{ltb, leb, eqb, lit<}
 use lib.ListN.{length, get_or, take, drop, set, drop_of_length-le, length-append}
 use lib.Seq.{take_all, take-suc-set, append_snoc, drop-cons, take_at, drop_at, take-add, drop-drop}
 use lib.Dec.{T}
+use Rattle.std.specs.List.{sum, list_all, zip}
+use Rattle.std.proofs.lemmas.List.Sums.{sum_by-cons}
 use Rattle.octets.specs.Octets.{part, put, number, be, octets, same_octets, all_zero}
 use Rattle.octets.specs.Fields.{width_of, narrow, fields_at, fit, field_octets}
 use Rattle.octets.proofs.Parts.{part_first}
@@ -86,10 +88,6 @@ module _ (ws : List ℕ) (i : ℕ) (h : i < length ws) where
   unfolding fields_at
   fields_next at s = rw (next ws i h)
 
-  pub fit_next : (vs : List ℕ) → i < length vs → fit (drop i ws) (drop i vs) ≡ (ltb (get_or vs i 0) (256 ^ get_or ws i 0) && fit (drop (i + 1) ws) (drop (i + 1) vs))
-  unfolding fit
-  fit_next vs k = rw (next ws i h, next vs i k)
-
   pub octets_next : (vs : List ℕ) → i < length vs → field_octets (drop i ws) (drop i vs) ≡ be (get_or ws i 0) (get_or vs i 0) ++ field_octets (drop (i + 1) ws) (drop (i + 1) vs)
   unfolding field_octets
   octets_next vs k = rw (next ws i h, next vs i k)
@@ -113,6 +111,18 @@ narrow_width [] e = omega arith
 narrow_width (w ∷ ws) e =
     let k : (leb w 8 ≡ true) × (narrow ws ≡ true) = both (leb w 8) (narrow ws) e in
     omega (arith, leb-true w 8 k.0, narrow_width ws k.1)
+
+pub sum_width : (ws : List ℕ) → sum ws ≡ width_of ws
+sum_width [] = refl
+sum_width (w ∷ ws) = sum_by-cons (λ (x : ℕ). x) w ws ∙ ap (λ (n : ℕ). w + n) (sum_width ws)
+
+-- the pairs of widths and numbers
+pub fit_pairs : (ws vs : List ℕ) → length ws ≡ length vs → list_all (λ (p : ℕ × ℕ). ltb p.1 (256 ^ p.0)) (zip ws vs) ≡ fit ws vs
+unfolding fit
+fit_pairs [] [] e = refl
+fit_pairs [] (v ∷ vs) e = absurd (suc-ne-zero (length vs) (sym e))
+fit_pairs (w ∷ ws) [] e = absurd (suc-ne-zero (length ws) e)
+fit_pairs (w ∷ ws) (v ∷ vs) e = ap (λ (t : Bool). ltb v (256 ^ w) && t) (fit_pairs ws vs (suc_inj e))
 
 pub length_fields_at : (at : ℕ) (ws s : List ℕ) → length (fields_at at ws s) ≡ length ws
 unfolding fields_at

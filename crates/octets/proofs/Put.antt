@@ -1,13 +1,13 @@
 -- The laws of `put` and `part`: a store at either end of what is put makes it one octet longer, two puts side by side are one,
--- what stands outside stays; and what holds in a loop that writes octets from the front or from the back. Assumes nothing.
+-- and what holds in a loop that writes from the front. Assumes nothing.
 use mathlib.Core.Path.{◌≡◌, refl, sym, ap, ap₂, ◌∙◌}
 use mathlib.Core.List.{List, [], ◌∷◌, ◌++◌, append_assoc, append-nil}
 use Prim.Native.Nat.{ℕ, zero, suc, ◌+◌, ◌-◌, ◌≤◌, ◌<◌}
-use native.Mathlib.Nat.{not-suc-le-zero, add-zero, zero-add, add-suc, suc-add, add_assoc}
+use native.Mathlib.Nat.{not-suc-le-zero, add-zero, zero-add, suc-add, add_assoc}
 use native.Mathlib.Numerals.{add-one}
 use native.Mathlib.Omega.{arith}
-use lib.ListN.{length, take, drop, get_or, set, length-append, length-drop, take-append-drop, length-set, drop_of_length-le, get_or-append}
-use lib.Seq.{take-add, take-nil, take-set-le, drop-set-lt, get_or-set_same, set_split, take-append-le, take-take, take_at, drop_at, drop-drop, length-take-le, take_all, take-suc, drop-cons, append_snoc, set_at, get_or-take, get_or-drop, get_or-append-add}
+use lib.ListN.{length, take, drop, get_or, set, length-append, length-drop, take-append-drop, length-set, drop_of_length-le}
+use lib.Seq.{paste, take-add, take-nil, take-set-le, drop-set-lt, get_or-set_same, set_split, take-append-le, take-take, take_at, drop_at, drop-drop, length-take-le, take_all, take-suc, drop-cons, set_at, get_or-take, get_or-drop}
 use Rattle.octets.specs.Octets.{put, part}
 
 pub put_nil : (at : ℕ) (s : List ℕ) → put at [] s ≡ s
@@ -30,16 +30,6 @@ put_snoc at v s x h =
     ∙ set_at p (get_or s n 0) (drop (suc n) s) x n long
     ∙ simp (append_assoc, length-append, ← add_assoc, add-one)
 
--- a store just before what was put
-put_cons : (at : ℕ) (v s : List ℕ) (x : ℕ) → at + length v < length s → set (put (suc at) v s) at x ≡ put at (x ∷ v) s
-unfolding put
-put_cons at v s x h =
-    let rest : List ℕ = v ++ drop (suc at + length v) s in
-    ap (λ (l : List ℕ). set (l ++ rest) at x) (take-suc s at 0 (omega arith))
-    ∙ ap (λ (l : List ℕ). set l at x) (append_snoc (take at s) (get_or s at 0) rest)
-    ∙ set_at (take at s) (get_or s at 0) rest x at (length-take-le at s (omega arith))
-    ∙ simp (suc-add, add-suc)
-
 module _ (at : ℕ) (v s : List ℕ) (fits : at + length v ≤ length s) where
   -- one turn of a loop that writes v from its front
   pub put_up : (i : ℕ) → i < length v → set (put at (take i v) s) (at + i) (get_or v i 0) ≡ put at (take (i + 1) v) s
@@ -48,31 +38,6 @@ module _ (at : ℕ) (v s : List ℕ) (fits : at + length v ≤ length s) where
       ap (λ (n : ℕ). set (put at (take i v) s) (at + n) (get_or v i 0)) (sym long)
       ∙ put_snoc at (take i v) s (get_or v i 0) (rw long (omega arith))
       ∙ ap (λ (l : List ℕ). put at l s) (sym (take-suc v i 0 h) ∙ rw add-one)
-
-  -- one turn of a loop that writes v from its back
-  pub put_back : (i : ℕ) → i < length v → set (put (at + (i + 1)) (drop (i + 1) v) s) (at + i) (get_or v i 0) ≡ put (at + i) (drop i v) s
-  put_back i h =
-      rw (add-one, add-suc)
-      (put_cons (at + i) (drop (suc i) v) s (get_or v i 0) (rw length-drop (omega arith)) ∙ ap (λ (l : List ℕ). put (at + i) l s) (sym (drop-cons v i 0 h)))
-
-  -- what stands before and behind it
-  pub get_d_put_before : (j : ℕ) → j < at → get_or (put at v s) j 0 ≡ get_or s j 0
-  unfolding put
-  get_d_put_before j h =
-      get_or-append (take at s) (v ++ drop (at + length v) s) 0 j (rw (length-take-le at s (omega arith)) h) ∙ get_or-take at s j 0 h
-
-  pub get_d_put_behind : (j : ℕ) → at + length v ≤ j → get_or (put at v s) j 0 ≡ get_or s j 0
-  unfolding put
-  get_d_put_behind j h =
-      let n : ℕ = at + length v in
-      let p : List ℕ = take at s ++ v in
-      let long : length p ≡ n = length-append (take at s) v ∙ ap (λ (k : ℕ). k + length v) (length-take-le at s (omega arith)) in
-      let split : j ≡ n + (j - n) = omega arith in
-      ap (λ (l : List ℕ). get_or l j 0) (sym (append_assoc (take at s) v (drop n s)))
-      ∙ ap (λ (k : ℕ). get_or (p ++ drop n s) k 0) (split ∙ ap (λ (k : ℕ). k + (j - n)) (sym long))
-      ∙ get_or-append-add p (drop n s) (j - n) 0
-      ∙ get_or-drop n s (j - n) 0
-      ∙ ap (λ (k : ℕ). get_or s k 0) (sym split)
 
 -- two puts side by side are one: the later one in front of the earlier, and behind it
 pub put_front : (at : ℕ) (a b s : List ℕ) → at + length a ≤ length s → put at a (put (at + length a) b s) ≡ put at (a ++ b) s
@@ -117,6 +82,11 @@ put_lent a e s v h l q =
     let long : length v ≡ e - a = q ∙ length_part a (e - a) s (omega arith) in
     ap (λ (r : List ℕ). take a s ++ (v ++ r)) (drop-drop (e - a) a s ∙ ap (λ (n : ℕ). drop (a + n) s) (sym long))
 
+-- the octets i to j of a list copied to `at`, as std has the whole afterwards
+pub put_copied : (i j at : ℕ) (s : List ℕ) → i ≤ j → j ≤ length s → paste s at (drop i s) (j - i) ≡ put at (part i (j - i) s) s
+unfolding put
+put_copied i j at s h l = append_assoc (take at s) (part i (j - i) s) (drop (at + (j - i)) s) ∙ rw (length_part i (j - i) s (omega arith))
+
 -- an octet of a part
 pub get_d_part : (at n i : ℕ) (s : List ℕ) → i < n → get_or (part at n s) i 0 ≡ get_or s (at + i) 0
 get_d_part at n i s h = get_or-take n (drop at s) i 0 h ∙ get_or-drop at s i 0
@@ -145,53 +115,6 @@ module _ {v : List ℕ} {at n : ℕ} {s₀ : List ℕ} where
 
   pub ahead_all : {s : List ℕ} {i : ℕ} → Ahead v at n s₀ s i → n ≤ i → s ≡ put at v s₀
   ahead_all {s} {i} a h = a.state ∙ ap (λ (l : List ℕ). put at l s₀) (take_all i v (omega arith))
-
-  -- an octet that the loop has not come to
-  pub ahead_later : {s : List ℕ} {i : ℕ} → Ahead v at n s₀ s i → (j : ℕ) → at + i ≤ j → get_or s j 0 ≡ get_or s₀ j 0
-  ahead_later {s} {i} a j h =
-      let size : length (take i v) ≡ i = length-take-le i v (omega arith) in
-      ap (λ (l : List ℕ). get_or l j 0) a.state ∙ get_d_put_behind at (take i v) s₀ (rw size (omega arith)) j (rw size h)
-
--- The same from the back: i octets are still to be written.
-pub record Behind (v : List ℕ) (at n : ℕ) (s₀ s : List ℕ) (i : ℕ) : Type 0 where
-  pub size : length v ≡ n
-  pub fits : at + n ≤ length s₀
-  pub within : i ≤ n
-  pub long : length s ≡ length s₀
-  pub state : s ≡ put (at + i) (drop i v) s₀
-
-module _ {v : List ℕ} {at n : ℕ} {s₀ : List ℕ} where
-  pub behind_none : length v ≡ n → at + n ≤ length s₀ → Behind v at n s₀ s₀ n
-  behind_none e h = record {
-    size = e;
-    fits = h;
-    within = omega arith;
-    long = refl;
-    state = sym (ap (λ (l : List ℕ). put (at + n) l s₀) (drop_of_length-le v {i = n} (omega arith)) ∙ put_nil (at + n) s₀);
-  }
-
-  pub behind_more : {s : List ℕ} {i x : ℕ} → Behind v at n s₀ s i → 0 < i → x ≡ get_or v (i - 1) 0 → Behind v at n s₀ (set s (at + (i - 1)) x) (i - 1)
-  behind_more {s} {i} {x} b h e =
-      let j : ℕ = i - 1 in
-      let i-is : i ≡ j + 1 = omega arith in
-      record {
-        size = b.size;
-        fits = b.fits;
-        within = omega arith;
-        long = length-set s (at + j) x ∙ b.long;
-        state =
-            ap₂ (λ (l : List ℕ) (y : ℕ). set l (at + j) y) (b.state ∙ ap (λ (k : ℕ). put (at + k) (drop k v) s₀) i-is) e
-            ∙ put_back at v s₀ (omega arith) j (omega arith);
-      }
-
-  pub behind_all : {s : List ℕ} {i : ℕ} → Behind v at n s₀ s i → i ≤ 0 → s ≡ put at v s₀
-  behind_all {s} {i} b h =
-      let z : i ≡ 0 = omega arith in
-      b.state ∙ ap (λ (k : ℕ). put (at + k) (drop k v) s₀) z ∙ rw add-zero
-
-  pub behind_earlier : {s : List ℕ} {i : ℕ} → Behind v at n s₀ s i → (j : ℕ) → j < at + i → get_or s j 0 ≡ get_or s₀ j 0
-  behind_earlier {s} {i} b j h =
-      ap (λ (l : List ℕ). get_or l j 0) b.state ∙ get_d_put_before (at + i) (drop i v) s₀ (rw length-drop (omega arith)) j h
 
 -- ---- stores and puts in turn
 

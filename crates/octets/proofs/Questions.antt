@@ -1,10 +1,11 @@
 -- The questions on lists of numbers, one element at a time, over lists joined, and turned round. Of use to every crate.
 -- Assumes nothing.
-use mathlib.Core.Path.{◌≡◌, refl, sym, ◌∙◌, ap}
+use mathlib.Core.Path.{◌≡◌, refl, sym, ◌∙◌, ap, ap₂}
 use mathlib.Core.Bool.{Bool, false, ◌||◌, or_assoc}
 use mathlib.Core.List.{List, [], ◌∷◌, ◌++◌}
 use Prim.Native.Nat.{ℕ}
 use lib.Dec.{eqb}
+use Rattle.std.specs.List.{list_any}
 use Rattle.octets.proofs.Bools.{eqb_turn, or_swap, or_four}
 use Rattle.octets.specs.Lists.{member, any_in}
 
@@ -23,6 +24,12 @@ any_nil ys = refl
 pub any_cons : (x : ℕ) (xs ys : List ℕ) → any_in (x ∷ xs) ys ≡ (member x ys || any_in xs ys)
 unfolding any_in
 any_cons x xs ys = refl
+
+-- std's search for an element
+pub member_any : (x : ℕ) (xs : List ℕ) → list_any (λ y. eqb y x) xs ≡ member x xs
+unfolding member
+member_any x [] = refl
+member_any x (y ∷ ys) = ap₂ ◌||◌ (eqb_turn y x) (member_any x ys)
 
 -- ---- lists joined
 

@@ -41,11 +41,6 @@ unfoldable pub all_zero : List ℕ → Bool
 all_zero [] = true
 all_zero (x ∷ xs) = eqb x 0 && all_zero xs
 
--- whether the octets at k places are zero, each place q after the one before
-unfoldable pub zero_apart : ℕ → ℕ → ℕ → List ℕ → Bool
-zero_apart zero q at s = true
-zero_apart (suc k) q at s = eqb (get_or s at 0) 0 && zero_apart k q (at + q) s
-
 unfoldable pub same_octets : List ℕ → List ℕ → Bool
 same_octets [] [] = true
 same_octets [] (y ∷ ys) = false

@@ -1,15 +1,11 @@
--- `octets::fits` meets its contract: the number without its last octet fits one octet less.
--- Assumes nothing.
-use mathlib.Core.Path.{refl, sym, ◌∙◌}
-use native.Mathlib.Omega.{arith}
-use Rattle.octets.proofs.Digits.{fits_turn, fits_none}
+-- `octets::fits` meets its contract: what is left of the number without its n last octets. Assumes nothing.
+use Rattle.std.proofs.Common.{◌∙◌, sym, arith}
+use borrow.Author.Tests.{le-leb}
+use Rattle.octets.proofs.Digits.{fits_all, fits_shifted}
 use Rattle.octets.proofs.fits.Goals as goal
 
-pub loop-left-init : goal.loop-left-init
-loop-left-init c = refl
+pub returns-then-n-ge8 : goal.returns-then-n-ge8
+returns-then-n-ge8 c = le-leb 8 c.args.n c.if-n-ge8.true ∙ sym (fits_all c.args.value c.args.n (omega arith) c.if-n-ge8.true)
 
-pub loop-left-preserved : goal.loop-left-preserved
-loop-left-preserved c = let l = c.loop-left in fits_turn l.left l.rest c.loop-left-test.true ∙ l.invariant
-
-pub returns : goal.returns
-returns c = let l = c.loop-left in sym (fits_none l.left l.rest (omega arith)) ∙ l.invariant
+pub returns-else-n-ge8 : goal.returns-else-n-ge8
+returns-else-n-ge8 c = fits_shifted c.args.value c.args.n

@@ -1,44 +1,24 @@
--- `octets::is_zero` meets its contract. A turn takes the first octet off the part that is left.
--- Assumes nothing.
-use mathlib.Core.Bool.{Bool, true, false, ◌&&◌}
-use mathlib.Core.Path.{◌≡◌, refl, sym, ap, ◌∙◌}
-use Prim.Native.Nat.{ℕ, ◌+◌, ◌-◌}
-use native.Mathlib.Omega.{arith}
-use lib.Dec.{eqb}
-use lib.ListN.{get_or}
+-- `octets::is_zero` meets its contract: `any` is 0 while the octets so far are. Assumes nothing.
+use Rattle.std.proofs.Common.{ℕ, ◌+◌, ◌-◌, ◌∙◌, sym, ap, refl, arith}
+use Rattle.std.proofs.lemmas.List.{take_all}
 use Rattle.octets.specs.Octets.{part, all_zero}
-use Rattle.octets.proofs.Parts.{zero_first}
+use Rattle.octets.proofs.Apart.{zero_more, one_more}
 use Rattle.octets.proofs.is_zero.Goals as goal
 
-turned : (b c r : Bool) → ((b && c) && r) ≡ (c && (b && r))
-turned true true r = refl
-turned true false r = refl
-turned false true r = refl
-turned false false r = refl
+pub loop-x-init : goal.loop-x-init
+unfolding all_zero
+loop-x-init c = refl
 
-kept : (b : Bool) → b ≡ (b && true)
-kept true = refl
-kept false = refl
-
-pub loop-left-init : goal.loop-left-init
-loop-left-init c = (refl, refl)
-
-pub loop-left-preserved : goal.loop-left-preserved
-loop-left-preserved c =
+pub loop-x-preserved : goal.loop-x-preserved
+loop-x-preserved c =
+    let l = c.loop-x in
     let a = c.args in
-    let l = c.loop-left in
-    let rest = all_zero (part (l.from + 1) (l.left - 1) a.s.now) in
-    let x = eqb (get_or a.s.now l.from 0) 0 in (
-      omega arith,
-      ap (λ (t : Bool). t && rest) c.greater-top.ensures
-          ∙ turned x (eqb l.top 0) rest
-          ∙ ap (λ (t : Bool). eqb l.top 0 && t) (sym (zero_first l.from l.left a.s.now (omega arith) (omega arith)))
-          ∙ l.invariant.1,
-    )
+    one_more l.any _ _ _ l.invariant refl ∙ sym (zero_more (part a.at (a.at + a.n - a.at) a.s.now) l.x-index c.loop-x-test.true)
 
 pub returns : goal.returns
-unfolding all_zero
 returns c =
-    let l = c.loop-left in
-    let z : l.left ≡ 0 = omega arith in
-    kept (eqb l.top 0) ∙ ap (λ (k : ℕ). eqb l.top 0 && all_zero (part l.from k c.args.s.now)) (sym z) ∙ l.invariant.1
+    let l = c.loop-x in
+    let a = c.args in
+    l.invariant
+    ∙ ap all_zero (take_all l.x-index (part a.at (a.at + a.n - a.at) a.s.now) c.loop-x-test.false)
+    ∙ ap (λ (k : ℕ). all_zero (part a.at k a.s.now)) (omega arith)
