@@ -1,4 +1,5 @@
 -- Answers of readers, and what a writer leaves by its contract: the inverse of each element by that of its rules. Assumes nothing.
+use Rattle.std.specs.Prelude.{Some, None}
 use mathlib.Core.Bool.{Bool, true, false}
 use mathlib.Core.List.{List, ◌++◌}
 use mathlib.Core.Option.{Option, none, some}
@@ -14,8 +15,7 @@ use Rattle.octets.specs.Octets.{put}
 use Rattle.octets.proofs.Tests.{of_true, is_true}
 use Rattle.rules.specs.Elements as rules
 use Rattle.rules.specs.Elements.{Written, write_if, value, refuse, Refusal}
-use Rattle.element.specs.declared.Written as code
-use Rattle.element.specs.declared.Written.TheVariants.{Octets, Refused}
+use Rattle.std.specs.Prelude as std
 use Rattle.element.specs.Answers.{left, write_meant}
 use Rattle.element.specs.Trips.{Inverse, CodeInverse}
 use Rattle.element.proofs.AnswerLaws.{none_is_not_some, some_same}
@@ -39,9 +39,9 @@ map_value none x e = none_is_not_some e
 map_value (some y) x e = ap some (value_same (some_same e))
 
 -- what a writer leaves tells its cases apart
-pub left_octets : (r : code.Written) (n : ℕ) (after t : List ℕ) → left r after ≡ record { count = some n; space = t } → (r ≡ Octets n) × (after ≡ t)
-left_octets (Octets m) n after t e = (ap Octets (some_same (ap (λ (w : Written). w.count) e)), ap (λ (w : Written). w.space) e)
-left_octets Refused n after t e = none_is_not_some (ap (λ (w : Written). w.count) e)
+pub left_octets : (r : std.Option ℕ) (n : ℕ) (after t : List ℕ) → left r after ≡ record { count = some n; space = t } → (r ≡ Some n) × (after ≡ t)
+left_octets (Some m) n after t e = (ap Some (some_same (ap (λ (w : Written). w.count) e)), ap (λ (w : Written). w.space) e)
+left_octets None n after t e = none_is_not_some (ap (λ (w : Written). w.count) e)
 
 -- ---- what a writer leaves, by its contract: o the value that the struct means, `after` the space at exit
 
@@ -53,14 +53,14 @@ pub record Wrote {A : Type 0} (allowed : A → Bool) (octets_of : A → List ℕ
 
 module _ {A : Type 0} (allowed : A → Bool) (octets_of : A → List ℕ) (space after : List ℕ) where
   -- n octets were written: those of an allowed value
-  pub wrote : (n : ℕ) (o : Option A) → left (Octets n) after ≡ write_meant (λ v s. write_if (allowed v) (octets_of v) s) o space → Wrote allowed octets_of o n after
+  pub wrote : (n : ℕ) (o : Option A) → left (Some n) after ≡ write_meant (λ v s. write_if (allowed v) (octets_of v) s) o space → Wrote allowed octets_of o n after
   unfolding write_if put
   wrote n none e = none_is_not_some (sym (ap (λ (w : Written). w.count) e))
   wrote n (some x) e = by (allowed x) refl (leb (length (octets_of x)) (length space)) refl
     where
       by : (a : Bool) → allowed x ≡ a → (b : Bool) → leb (length (octets_of x)) (length space) ≡ b → Wrote allowed octets_of (some x) n after
       by true p true q =
-          let g : left (Octets n) after ≡ record { count = some (length (octets_of x)); space = octets_of x ++ drop (0 + length (octets_of x)) space } = rw (p, q) at e in
+          let g : left (Some n) after ≡ record { count = some (length (octets_of x)); space = octets_of x ++ drop (0 + length (octets_of x)) space } = rw (p, q) at e in
           record {
             meant = x;
             is = refl;
@@ -70,16 +70,16 @@ module _ {A : Type 0} (allowed : A → Bool) (octets_of : A → List ℕ) (space
                 ∙ take_at (octets_of x) (drop (0 + length (octets_of x)) space) (length (octets_of x)) refl;
           }
       by true p false q =
-          let g : left (Octets n) after ≡ record { count = none; space = space } = rw (p, q) at e in
+          let g : left (Some n) after ≡ record { count = none; space = space } = rw (p, q) at e in
           none_is_not_some (sym (ap (λ (w : Written). w.count) g))
       by false p b q =
-          let g : left (Octets n) after ≡ record { count = none; space = space } = rw p at e in
+          let g : left (Some n) after ≡ record { count = none; space = space } = rw p at e in
           none_is_not_some (sym (ap (λ (w : Written). w.count) g))
 
   -- the octets s of an allowed value are written, where there is room
-  pub written : (r : code.Written) (s : List ℕ) (o : Option A) (y : rules.Answer A) → map_option value o ≡ some y
+  pub written : (r : std.Option ℕ) (s : List ℕ) (o : Option A) (y : rules.Answer A) → map_option value o ≡ some y
       → ((x : A) → y ≡ value x → (octets_of x ≡ s) × T (allowed x)) → length s ≤ length space
-      → left r after ≡ write_meant (λ v s. write_if (allowed v) (octets_of v) s) o space → (r ≡ Octets (length s)) × (after ≡ put 0 s space)
+      → left r after ≡ write_meant (λ v s. write_if (allowed v) (octets_of v) s) o space → (r ≡ Some (length s)) × (after ≡ put 0 s space)
   unfolding write_if
   written r s none y e f l g = none_is_not_some e
   written r s (some x) y e f l g =

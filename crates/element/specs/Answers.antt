@@ -1,13 +1,12 @@
 -- What the readers and writers answer, in the rules' terms. Assumes nothing.
-use Rattle.std.specs.Prelude.{Bool, false, List, ℕ}
+use Rattle.std.specs.Prelude as std
+use Rattle.std.specs.Prelude.{Bool, false, List, ℕ, Some, None}
 use Rattle.std.proofs.Math.Option.{Option, none, some}
 use Rattle.octets.specs.Choice.{value_or, map_option}
 use Rattle.rules.specs.Elements as rules
 use Rattle.rules.specs.Elements.{too_short, incorrect}
 use Rattle.element.specs.declared.Refusal.{Refusal}
 use Rattle.element.specs.declared.Refusal.TheVariants.{TooShort, Incorrect}
-use Rattle.element.specs.declared.Written.{Written}
-use Rattle.element.specs.declared.Written.TheVariants.{Octets, Refused}
 
 -- why a reader refuses
 abbrev pub refusal_of : Refusal → rules.Refusal
@@ -15,12 +14,12 @@ refusal_of TooShort = too_short
 refusal_of Incorrect = incorrect
 
 -- how many octets a writer says that it wrote, none where it says that it refused
-abbrev pub written_count : Written → Option ℕ
-written_count (Octets n) = some n
-written_count Refused = none
+abbrev pub written_count : std.Option ℕ → Option ℕ
+written_count (Some n) = some n
+written_count None = none
 
 -- what a writer leaves: its answer, and the space at exit
-abbrev pub left : Written → List ℕ → rules.Written
+abbrev pub left : std.Option ℕ → List ℕ → rules.Written
 left r space = record { count = written_count r; space = space }
 
 -- what a writer has to leave for a struct that means a value, or none: none is refused, and nothing is written

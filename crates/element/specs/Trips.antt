@@ -1,11 +1,10 @@
 -- Reading and writing are inverse: of the rules' values, and of the code's structs by the contracts. Assumes nothing.
-use Rattle.std.specs.Prelude.{Bool, List, ◌++◌, ◌≡◌, ℕ, ◌≤◌, T, length, take}
+use Rattle.std.specs.Prelude as std
+use Rattle.std.specs.Prelude.{Some, Bool, List, ◌++◌, ◌≡◌, ℕ, ◌≤◌, T, length, take}
 use Rattle.std.proofs.Math.Option.{Option, some}
 use Rattle.octets.specs.Octets.{octets, put}
 use Rattle.rules.specs.Elements as rules
 use Rattle.rules.specs.Elements.{value}
-use Rattle.element.specs.declared.Written.{Written}
-use Rattle.element.specs.declared.Written.TheVariants.{Octets}
 use Rattle.element.specs.Answers.{left, write_meant}
 
 -- a reader of values, of which some are allowed and have octets; `Whole` are the octets with nothing in them that the reader ignores
@@ -19,7 +18,7 @@ module _ {A : Type 0} (read : List ℕ → rules.Answer A) (Whole : List ℕ →
   -- By the contracts, of the structs S that mean values and the answers R of which one is a struct: what the writer wrote is read as the same
   -- struct, whatever follows; and of a struct that was read, with nothing ignored, the writer writes the same octets, where there is room.
   pub record CodeInverse (write : A → List ℕ → rules.Written) {S R : Type 0} (meant : S → Option A) (answer_of : R → Option (rules.Answer A)) (struct : S → R) : Type 0 where
-    pub back : (v : S) (n : ℕ) (space after rest : List ℕ) (a : R) → left (Octets n) after ≡ write_meant write (meant v) space
+    pub back : (v : S) (n : ℕ) (space after rest : List ℕ) (a : R) → left (Some n) after ≡ write_meant write (meant v) space
         → answer_of a ≡ some (read (take n after ++ rest)) → a ≡ struct v
-    pub again : (s : List ℕ) (v : S) (r : Written) (space after : List ℕ) → T (octets s) → Whole s → answer_of (struct v) ≡ some (read s)
-        → length s ≤ length space → left r after ≡ write_meant write (meant v) space → (r ≡ Octets (length s)) × (after ≡ put 0 s space)
+    pub again : (s : List ℕ) (v : S) (r : std.Option ℕ) (space after : List ℕ) → T (octets s) → Whole s → answer_of (struct v) ≡ some (read s)
+        → length s ≤ length space → left r after ≡ write_meant write (meant v) space → (r ≡ Some (length s)) × (after ≡ put 0 s space)

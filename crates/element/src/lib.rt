@@ -15,13 +15,6 @@ pub enum Refusal {
     Incorrect,
 }
 
-// What a writer answers: how many octets it wrote at the start of the space, or that it refused and wrote nothing.
-#[derive(Clone, Copy)]
-pub enum Written {
-    Octets(usize),
-    Refused,
-}
-
 // The cause of the reply for a refusal.
 pub fn cause_of(refusal: Refusal) -> u64
     ensures { result ≡ cause_of (refusal_of refusal) }
@@ -41,13 +34,14 @@ pub fn write_fields_at(out: &mut [u8], at: usize, ws: &[usize], vs: &[u64]) -> u
     at + octets::fields::width(ws)
 }
 
-// Writes the numbers vs at the widths ws at the start of out, or refuses too little space and writes nothing. Octets after them stay.
-pub fn write_fields(out: &mut [u8], ws: &[usize], vs: &[u64]) -> Written
+// Writes the numbers vs at the widths ws at the start of out: how many octets they take, or None where there is too little space, and nothing is written.
+// Octets after them stay.
+pub fn write_fields(out: &mut [u8], ws: &[usize], vs: &[u64]) -> Option<usize>
     requires { (length ws.now ≡ length vs.now) × (narrow ws.now ≡ true) }
     ensures { left result out.new ≡ write_if true (field_octets ws.now vs.now) out.old }
 {
     if out.len() < octets::fields::width(ws) {
-        return Written::Refused;
+        return None;
     }
-    Written::Octets(write_fields_at(out, 0, ws, vs))
+    Some(write_fields_at(out, 0, ws, vs))
 }

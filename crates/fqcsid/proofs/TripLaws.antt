@@ -1,4 +1,5 @@
 -- FQ-CSID: reading and writing are inverse. Assumes nothing.
+use Rattle.std.specs.Prelude.{Result, Ok, Err}
 use mathlib.Core.Bool.{Bool, true, false}
 use mathlib.Core.List.{List, [], ◌∷◌, ◌++◌, map, append_assoc}
 use mathlib.Core.Option.{some}
@@ -19,8 +20,6 @@ use Rattle.octets.proofs.Numbers.{length_be, number_be, length_concat_map, slice
 use Rattle.octets.proofs.FieldLaws.{first_written, fields_octets, octets_fields_all, first_read, elements_all, length_fields_at, fit_fields_lem}
 use Rattle.rules.specs.Elements.{Fqcsid, sets, removal, address_length, operator_allowed, node_address_tests, node_address_allowed, node_type_kept, csids_read, csid_fields, count_allowed, checked_csid, csid_rest, read_fqcsid, below16, sets_tests, fqcsid_allowed, fqcsid_octets, write_fqcsid, value, too_short, incorrect}
 use Rattle.fqcsid.specs.declared.FqCsid.{FqCsid}
-use Rattle.fqcsid.specs.declared.Answer.{Answer}
-use Rattle.fqcsid.specs.declared.Answer.TheVariants.{Value, Refused}
 use Rattle.element.specs.Answers.{allowed_in}
 use Rattle.fqcsid.specs.Meaning.{fqcsid_numbers, fqcsid_widths, fqcsid_of, fqcsid_answer}
 use Rattle.fqcsid.specs.Trips.{WholeFqcsid, FqcsidInverse, FqcsidCodeInverse}
@@ -30,6 +29,7 @@ use Rattle.fqcsid.proofs.ValueLaws as ValueLaws
 use Rattle.fqcsid.proofs.ValueLaws.{struct_of, rule_tests, type_of, count_in}
 use Rattle.fqcsid.proofs.WriteLaws.{fqcsid_octets_lem, right_allowed, fits_meant, kept_small}
 use Rattle.element.proofs.TripLaws.{refused_is_not, not_refused, map_value, code_inverse}
+use Rattle.element.specs.declared.Refusal as code-refusal
 
 -- octets after the value are ignored
 csids_more : (m a : ℕ) (xs rest : List ℕ) → a + 2 * m ≤ length xs → csids_read m (drop a (xs ++ rest)) ≡ csids_read m (drop a xs)
@@ -240,9 +240,9 @@ fqcsid_struct v w x p q =
     ∙ fields_octets 0 [] (fqcsid_widths w.id_type w.count) (fqcsid_numbers w) [] refl b.fits)
 
 -- an answer of the reader that means the value of a struct is that struct
-fqcsid_answer_lem : (v : FqCsid) (x : Fqcsid) (a : Answer) → fqcsid_of v ≡ some x → fqcsid_answer a ≡ some (value x) → a ≡ Value v
-fqcsid_answer_lem v x (Value w) p q = ap Value (fqcsid_struct w v x (map_value (fqcsid_of w) x q) p)
-fqcsid_answer_lem v x (Refused r) p q = refused_is_not (some_same q)
+fqcsid_answer_lem : (v : FqCsid) (x : Fqcsid) (a : Result FqCsid code-refusal.Refusal) → fqcsid_of v ≡ some x → fqcsid_answer a ≡ some (value x) → a ≡ Ok v
+fqcsid_answer_lem v x (Ok w) p q = ap Ok (fqcsid_struct w v x (map_value (fqcsid_of w) x q) p)
+fqcsid_answer_lem v x (Err r) p q = refused_is_not (some_same q)
 
 pub fqcsid_inverse : FqcsidInverse
 unfolding FqcsidInverse
@@ -250,4 +250,4 @@ fqcsid_inverse = record { back = fqcsid_read_written; again = λ s v o h p. fqcs
 
 pub fqcsid_code_inverse : FqcsidCodeInverse
 unfolding FqcsidCodeInverse FqcsidInverse write_fqcsid
-fqcsid_code_inverse = code_inverse fqcsid_allowed fqcsid_octets fqcsid_of fqcsid_answer Value (λ v. refl) fqcsid_answer_lem fqcsid_inverse
+fqcsid_code_inverse = code_inverse fqcsid_allowed fqcsid_octets fqcsid_of fqcsid_answer Ok (λ v. refl) fqcsid_answer_lem fqcsid_inverse

@@ -1,4 +1,5 @@
 -- FQ-CSID: what the code tests and reads, in the rules' terms; s the octets. Assumes nothing.
+use Rattle.std.specs.Prelude.{Result, Ok, Err}
 use mathlib.Core.Bool.{Bool, true, false, not, ◌&&◌, ◌||◌}
 use mathlib.Core.List.{List, [], ◌∷◌, ◌++◌, map, append_assoc}
 use mathlib.Core.Option.{some}
@@ -22,8 +23,6 @@ use Rattle.rules.specs.Elements.{Fqcsid, address_length, operator_allowed, node_
 use Rattle.rules.specs.Limits.{max_operator}
 use Rattle.element.specs.declared.Refusal.{Refusal}
 use Rattle.fqcsid.specs.declared.FqCsid.{FqCsid}
-use Rattle.fqcsid.specs.declared.Answer.{Answer}
-use Rattle.fqcsid.specs.declared.Answer.TheVariants.{Value, Refused}
 use Rattle.element.specs.Answers.{refusal_of}
 use Rattle.fqcsid.specs.Meaning.{fqcsid_answer, address_widths, word_width, csid_widths, fqcsid_widths, address_numbers, csid_numbers, csid_address, csids_in, fqcsid_tests, fqcsid_meant, fqcsid_of}
 use Rattle.element.proofs.OctetLaws.{fit_at, width_of_two, slices_front}
@@ -342,8 +341,8 @@ module _ (s ws vs : List ℕ) (o : T (octets s)) (h : 0 < length s) (type : type
 -- ---- what callers ask of an answer
 
 -- the reader's answer, where its case is known: a struct means the value that the rules answer, and a refusal is theirs
-pub answer_value : {a : Answer} {v : FqCsid} {y : rules.Answer Fqcsid} → a ≡ Value v → fqcsid_answer a ≡ some y → ReadAs (fqcsid_of v) y
+pub answer_value : {a : Result FqCsid Refusal} {v : FqCsid} {y : rules.Answer Fqcsid} → a ≡ Ok v → fqcsid_answer a ≡ some y → ReadAs (fqcsid_of v) y
 answer_value {a} {v} {y} p q = read_as (fqcsid_of v) y (sym (ap fqcsid_answer p) ∙ q)
 
-pub answer_refused : {a : Answer} {r : Refusal} {y : rules.Answer Fqcsid} → a ≡ Refused r → fqcsid_answer a ≡ some y → y ≡ refuse (refusal_of r)
+pub answer_refused : {a : Result FqCsid Refusal} {r : Refusal} {y : rules.Answer Fqcsid} → a ≡ Err r → fqcsid_answer a ≡ some y → y ≡ refuse (refusal_of r)
 answer_refused p q = sym (some_same (sym (ap fqcsid_answer p) ∙ q))

@@ -1,14 +1,14 @@
 -- FQ-CSID: the value that the code's struct means. Assumes nothing.
+use Rattle.std.specs.Prelude.{Result, Ok, Err}
 use Rattle.std.specs.Prelude.{Bool, List, [], ◌∷◌, ◌++◌, ℕ, ◌+◌, ◌-◌, ◌*◌, min, eqb, ltb}
 use Rattle.std.proofs.Math.Option.{Option, none, some}
 use Rattle.octets.specs.Choice.{pick, all_of, map_option}
 use Rattle.octets.specs.Fields.{fit, field_octets}
 use Rattle.rules.specs.Elements as rules
-use Rattle.rules.specs.Elements.{Fqcsid, csids_read, csid_fields, count_allowed, value, refuse, cause_of}
+use Rattle.rules.specs.Elements.{Fqcsid, csids_read, csid_fields, count_allowed, value, refuse}
+use Rattle.element.specs.declared.Refusal.{Refusal}
 use Rattle.element.specs.Answers.{refusal_of}
 use Rattle.fqcsid.specs.declared.FqCsid.{FqCsid}
-use Rattle.fqcsid.specs.declared.Answer.{Answer}
-use Rattle.fqcsid.specs.declared.Answer.TheVariants.{Value, Refused}
 
 -- the octets of the address in its two numbers, by the Node-ID type: 16 are in both, 4 in the second
 unfoldable pub address_widths : ℕ → List ℕ
@@ -61,11 +61,6 @@ unfoldable pub fqcsid_of : FqCsid → Option Fqcsid
 fqcsid_of v = pick (all_of (fqcsid_tests v)) (some (fqcsid_meant v)) none
 
 -- the rules' answer for each case of the reader's
-abbrev pub fqcsid_answer : Answer → Option (rules.Answer Fqcsid)
-fqcsid_answer (Value v) = map_option value (fqcsid_of v)
-fqcsid_answer (Refused r) = some (refuse (refusal_of r))
-
--- the cause of each case, 0 of a value
-abbrev pub fqcsid_cause : Answer → ℕ
-fqcsid_cause (Value v) = 0
-fqcsid_cause (Refused r) = cause_of (refusal_of r)
+abbrev pub fqcsid_answer : Result FqCsid Refusal → Option (rules.Answer Fqcsid)
+fqcsid_answer (Ok v) = map_option value (fqcsid_of v)
+fqcsid_answer (Err r) = some (refuse (refusal_of r))

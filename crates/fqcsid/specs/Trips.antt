@@ -1,9 +1,9 @@
 -- FQ-CSID: reading and writing are inverse. Assumes nothing.
+use Rattle.std.specs.Prelude.{Ok}
 use Rattle.std.specs.Prelude.{List, ◌≡◌, ℕ, ◌+◌, ◌-◌, ◌*◌, ◌/◌, ◌%◌, ◌<◌, length}
 use Rattle.octets.specs.Octets.{octet_at}
 use Rattle.rules.specs.Elements.{address_length, read_fqcsid, fqcsid_allowed, fqcsid_octets, write_fqcsid}
 use Rattle.element.specs.Trips.{Inverse, CodeInverse}
-use Rattle.fqcsid.specs.declared.Answer.TheVariants.{Value}
 use Rattle.fqcsid.specs.Meaning.{fqcsid_of, fqcsid_answer}
 
 -- octets with nothing that a reader ignores: no high bit of the last octet, and no octet left over
@@ -15,4 +15,4 @@ unfoldable pub FqcsidInverse : Type 0
 FqcsidInverse = Inverse read_fqcsid WholeFqcsid fqcsid_allowed fqcsid_octets
 
 unfoldable pub FqcsidCodeInverse : Type 0
-FqcsidCodeInverse = CodeInverse read_fqcsid WholeFqcsid write_fqcsid fqcsid_of fqcsid_answer Value
+FqcsidCodeInverse = CodeInverse read_fqcsid WholeFqcsid write_fqcsid fqcsid_of fqcsid_answer Ok

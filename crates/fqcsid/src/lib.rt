@@ -9,9 +9,9 @@ ghost use Rattle.octets.specs.Fields.{width_of, field_octets};
 ghost use Rattle.rules.specs.Limits.{max_operator};
 ghost use Rattle.rules.specs.Elements.{address_length, node_type_kept, read_fqcsid, fqcsid_allowed, write_fqcsid};
 ghost use Rattle.element.specs.Answers.{left, write_meant, allowed_in};
-ghost use Rattle.fqcsid.specs.Meaning.{word_width, fqcsid_widths, fqcsid_numbers, fqcsid_of, fqcsid_answer, fqcsid_cause};
+ghost use Rattle.fqcsid.specs.Meaning.{word_width, fqcsid_widths, fqcsid_numbers, fqcsid_of, fqcsid_answer};
 
-use element::{Refusal, Written};
+use element::Refusal;
 
 // A Node-ID of 4 octets has its address in address_low alone. The CSIDs, of which there are count, stand two octets each in
 // four words, the first of them in csids_1, eight octets or what is left of them in each. So a single CSID is csids_1.
@@ -27,13 +27,6 @@ pub struct FqCsid {
     pub csids_3: u64,
     pub csids_4: u64,
     pub node_type: u64,
-}
-
-// The value, or why it is refused.
-#[derive(Clone, Copy)]
-pub enum Answer {
-    Value(FqCsid),
-    Refused(Refusal),
 }
 
 // Whether a node type is kept. More than four bits are no node type.
@@ -127,20 +120,20 @@ fn widths_of(id_type: u64, count: u64) -> [usize; 8]
 }
 
 // Reads a value. Octets after it are ignored, and so is the high half of its last octet.
-pub fn read(s: &[u8]) -> Answer
+pub fn read(s: &[u8]) -> Result<FqCsid, Refusal>
     ensures { fqcsid_answer result ≡ some (read_fqcsid s.now) }
 {
     if s.len() == 0 {
-        return Answer::Refused(Refusal::TooShort);
+        return Err(Refusal::TooShort);
     }
     let id_type = (s[0] / 16) as u64;
     let count = (s[0] % 16) as u64;
     if 2 < id_type {
-        return Answer::Refused(Refusal::Incorrect);
+        return Err(Refusal::Incorrect);
     }
     let ws = widths_of(id_type, count);
     if s.len() < octets::fields::width(&ws) {
-        return Answer::Refused(Refusal::TooShort);
+        return Err(Refusal::TooShort);
     }
     let mut vs = [0u64; 8];
     octets::fields::read_fields(s, 0, &ws, &mut vs);
@@ -156,9 +149,9 @@ pub fn read(s: &[u8]) -> Answer
         node_type: vs[7] % 16,
     };
     if keeps_rules(v) {
-        Answer::Value(v)
+        Ok(v)
     } else {
-        Answer::Refused(Refusal::Incorrect)
+        Err(Refusal::Incorrect)
     }
 }
 
@@ -210,23 +203,13 @@ pub fn write_at(v: FqCsid, out: &mut [u8], at: usize) -> usize
 }
 
 // Writes a value at the start of out, or refuses it, or too little space, and writes nothing. Octets after it stay.
-pub fn write(v: FqCsid, out: &mut [u8]) -> Written
+pub fn write(v: FqCsid, out: &mut [u8]) -> Option<usize>
     ensures { left result out.new ≡ write_meant write_fqcsid (fqcsid_of v) out.old }
 {
     if !is_allowed(v) {
-        return Written::Refused;
+        return None;
     }
     let ws = widths_of(v.id_type, v.count);
     let vs = numbers_of(v);
     element::write_fields(out, &ws, &vs)
-}
-
-// The cause of the reply for a refusal, and 0 for a value.
-pub fn cause_of(a: Answer) -> u64
-    ensures { result ≡ fqcsid_cause a }
-{
-    match a {
-        Answer::Value(_) => 0,
-        Answer::Refused(refusal) => element::cause_of(refusal),
-    }
 }

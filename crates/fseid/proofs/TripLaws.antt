@@ -1,4 +1,5 @@
 -- F-SEID: reading and writing are inverse. Assumes nothing.
+use Rattle.std.specs.Prelude.{Result, Ok, Err}
 use mathlib.Core.Bool.{Bool, true, false, not, ◌&&◌, ◌||◌}
 use mathlib.Core.List.{List, [], ◌∷◌, ◌++◌}
 use mathlib.Core.Option.{some}
@@ -17,14 +18,13 @@ use Rattle.octets.proofs.Put.{part_two}
 use Rattle.octets.proofs.Digits.{be_part, drop_octets}
 use Rattle.rules.specs.Elements.{address_of, fseid_length, seid_answer, read_fseid, fseid_octets, value, too_short, incorrect}
 use Rattle.laws.proofs.ElementLaws.{fseid_back}
-use Rattle.fseid.specs.declared.Answer.{Answer}
-use Rattle.fseid.specs.declared.Answer.TheVariants.{Value, Refused}
 use Rattle.fseid.specs.Meaning.{fseid_answer}
 use Rattle.fseid.specs.Trips.{WholeFseid, ipv4_in, ipv6_in, FseidInverse, FseidCodeBack}
 use Rattle.element.proofs.OctetLaws.{part_front}
 use Rattle.element.proofs.FlagLaws.{two_bits}
 use Rattle.element.proofs.AnswerLaws.{some_same}
 use Rattle.element.proofs.TripLaws.{refused_is_not, not_refused, value_same, wrote}
+use Rattle.element.specs.declared.Refusal as code-refusal
 
 -- octets after the value are ignored
 pub fseid_more : (s rest : List ℕ) (n : ℕ) → read_fseid s ≡ value n → read_fseid (s ++ rest) ≡ value n
@@ -78,9 +78,9 @@ fseid_written_read (f ∷ xs) n o h p =
 pub fseid_inverse : FseidInverse
 fseid_inverse = record { back = fseid_read_written; again = fseid_written_read }
 
-fseid_answer_lem : (n : ℕ) (a : Answer) → fseid_answer a ≡ value n → a ≡ Value n
-fseid_answer_lem n (Value m) q = ap Value (value_same q)
-fseid_answer_lem n (Refused r) q = refused_is_not q
+fseid_answer_lem : (n : ℕ) (a : Result ℕ code-refusal.Refusal) → fseid_answer a ≡ value n → a ≡ Ok n
+fseid_answer_lem n (Ok m) q = ap Ok (value_same q)
+fseid_answer_lem n (Err r) q = refused_is_not q
 
 not_zero : (n : ℕ) → T (not (eqb n 0)) → 1 ≤ n
 not_zero zero h = absurd h

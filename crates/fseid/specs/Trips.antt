@@ -1,12 +1,12 @@
 -- F-SEID: reading and writing are inverse. Of the value the reader keeps the SEID alone, so the addresses stand beside it. Assumes nothing.
+use Rattle.std.specs.Prelude.{Some}
+use Rattle.std.specs.Prelude.{Result, Ok}
 use Rattle.std.specs.Prelude.{not, ◌&&◌, List, [], ◌++◌, ◌≡◌, ℕ, ◌+◌, ◌*◌, ◌^◌, ◌≤◌, ◌<◌, T, eqb, length, take}
 use Rattle.octets.specs.Choice.{flag, is_nil}
 use Rattle.octets.specs.Octets.{be, bit, part, octet_at, octets}
 use Rattle.rules.specs.Elements.{address_of, fseid_length, read_fseid, fseid_octets, write_if, value}
-use Rattle.element.specs.declared.Written.TheVariants.{Octets}
+use Rattle.element.specs.declared.Refusal.{Refusal}
 use Rattle.element.specs.Answers.{left}
-use Rattle.fseid.specs.declared.Answer.{Answer}
-use Rattle.fseid.specs.declared.Answer.TheVariants.{Value}
 use Rattle.fseid.specs.Meaning.{fseid_answer}
 
 -- octets with nothing that a reader ignores: no other flag, and no octet left over
@@ -31,6 +31,6 @@ pub record FseidInverse : Type 0 where
 -- by the contracts: what `write` wrote is read as the same SEID, whatever follows
 unfoldable pub FseidCodeBack : Type 0
 FseidCodeBack =
-    (seid ipv4 n : ℕ) (space after rest : List ℕ) (a : Answer) → seid < 256 ^ 8
-    → left (Octets n) after ≡ write_if (not (eqb seid 0)) (fseid_octets seid (be 4 ipv4) []) space
-    → fseid_answer a ≡ read_fseid (take n after ++ rest) → a ≡ Value seid
+    (seid ipv4 n : ℕ) (space after rest : List ℕ) (a : Result ℕ Refusal) → seid < 256 ^ 8
+    → left (Some n) after ≡ write_if (not (eqb seid 0)) (fseid_octets seid (be 4 ipv4) []) space
+    → fseid_answer a ≡ read_fseid (take n after ++ rest) → a ≡ Ok seid

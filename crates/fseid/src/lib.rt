@@ -6,37 +6,30 @@ ghost use Rattle.std.specs.Prelude.{◌≡◌, not, [], ◌+◌, ◌≤◌, eqb,
 ghost use Rattle.octets.specs.Octets.{put, be};
 ghost use Rattle.rules.specs.Elements.{read_fseid, fseid_octets, write_if};
 ghost use Rattle.element.specs.Answers.{left};
-ghost use Rattle.fseid.specs.Meaning.{fseid_flags, fseid_answer, fseid_cause};
+ghost use Rattle.fseid.specs.Meaning.{fseid_flags, fseid_answer};
 
-use element::{Refusal, Written};
-
-// The SEID, or why the value is refused.
-#[derive(Clone, Copy)]
-pub enum Answer {
-    Value(u64),
-    Refused(Refusal),
-}
+use element::Refusal;
 
 // Reads a value, of which only the SEID is kept. Octets after it and other flags are ignored.
-pub fn read(s: &[u8]) -> Answer
+pub fn read(s: &[u8]) -> Result<u64, Refusal>
     ensures { fseid_answer result ≡ read_fseid s.now }
 {
     if s.len() == 0 {
-        return Answer::Refused(Refusal::TooShort);
+        return Err(Refusal::TooShort);
     }
     let v6 = (s[0] % 2) as usize;
     let v4 = (s[0] / 2 % 2) as usize;
     if v4 + v6 == 0 {
-        return Answer::Refused(Refusal::Incorrect);
+        return Err(Refusal::Incorrect);
     }
     if s.len() < 9 + 4 * v4 + 16 * v6 {
-        return Answer::Refused(Refusal::TooShort);
+        return Err(Refusal::TooShort);
     }
     let seid = octets::read(s, 1, 8);
     if seid == 0 {
-        return Answer::Refused(Refusal::Incorrect);
+        return Err(Refusal::Incorrect);
     }
-    Answer::Value(seid)
+    Ok(seid)
 }
 
 // The flags octet of a value with these addresses.
@@ -70,27 +63,17 @@ pub fn write_at(seid: u64, ipv4: &[u8], ipv6: &[u8], out: &mut [u8], at: usize) 
 
 // Writes a value with an IPv4 address at the start of out, or refuses a SEID of 0, or too little space, and writes nothing.
 // Octets after it stay.
-pub fn write(seid: u64, ipv4: u32, out: &mut [u8]) -> Written
+pub fn write(seid: u64, ipv4: u32, out: &mut [u8]) -> Option<usize>
     ensures { left result out.new ≡ write_if (not (eqb seid 0)) (fseid_octets seid (be 4 ipv4) []) out.old }
 {
     if seid == 0 {
-        return Written::Refused;
+        return None;
     }
     if 13 <= out.len() {
         let mut address = [0u8; 4];
         octets::write(&mut address, 0, 4, ipv4 as u64);
         let none = [0u8; 1];
-        return Written::Octets(write_at(seid, &address, &none[0..0], out, 0));
+        return Some(write_at(seid, &address, &none[0..0], out, 0));
     }
-    Written::Refused
-}
-
-// The cause of the reply for a refusal, and 0 for a value.
-pub fn cause_of(a: Answer) -> u64
-    ensures { result ≡ fseid_cause a }
-{
-    match a {
-        Answer::Value(_) => 0,
-        Answer::Refused(refusal) => element::cause_of(refusal),
-    }
+    None
 }

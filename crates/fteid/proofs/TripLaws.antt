@@ -1,4 +1,5 @@
 -- F-TEID: reading and writing are inverse. Assumes nothing.
+use Rattle.std.specs.Prelude.{Result, Ok, Err}
 use mathlib.Core.Bool.{Bool, true, false}
 use mathlib.Core.List.{List, [], ◌∷◌, ◌++◌}
 use mathlib.Core.Option.{none, some}
@@ -16,8 +17,6 @@ use Rattle.octets.proofs.FieldLaws.{first_written, fields_octets, octets_fields_
 use Rattle.rules.specs.Elements.{Fteid, choose, v4_flag, v6_flag, ch_flag, chid_flag, wrong_flags, fteid_length, chosen_fields, given_fields, fteid_fields, read_fteid, fteid_allowed, fteid_octets, write_fteid, value, too_short, incorrect}
 use Rattle.laws.proofs.ElementLaws.{fteid_back}
 use Rattle.fteid.specs.declared.FTeid.{FTeid}
-use Rattle.fteid.specs.declared.Answer.{Answer}
-use Rattle.fteid.specs.declared.Answer.TheVariants.{Value, Refused}
 use Rattle.fteid.specs.Meaning.{fteid_widths, fteid_numbers, fteid_tests, fteid_meant, fteid_of, fteid_answer}
 use Rattle.fteid.specs.Trips.{WholeFteid, FteidInverse, FteidCodeInverse}
 use Rattle.element.proofs.OctetLaws.{part_front, part_below}
@@ -26,6 +25,7 @@ use Rattle.element.proofs.AnswerLaws.{picked, some_same}
 use Rattle.fteid.proofs.ValueLaws as ValueLaws
 use Rattle.fteid.proofs.ValueLaws.{fteid_octets_lem, fteid_allowed_lem, means, six}
 use Rattle.element.proofs.TripLaws.{refused_is_not, not_refused, value_same, map_value, code_inverse}
+use Rattle.element.specs.declared.Refusal as code-refusal
 
 -- octets after the value are ignored
 chosen_more : (b : Bool) (xs rest : List ℕ) → flag b ≤ length xs → pick b (some (octet_at (xs ++ rest) 0)) none ≡ pick b (some (octet_at xs 0)) none
@@ -146,9 +146,9 @@ fteid_struct v w x p q =
     ∙ fields_octets 0 [] (fteid_widths w.flags) (fteid_numbers w) [] refl b.fitting)
 
 -- an answer of the reader that means the value of a struct is that struct
-fteid_answer_lem : (v : FTeid) (x : Fteid) (a : Answer) → fteid_of v ≡ some x → fteid_answer a ≡ some (value x) → a ≡ Value v
-fteid_answer_lem v x (Value w) p q = ap Value (fteid_struct w v x (map_value (fteid_of w) x q) p)
-fteid_answer_lem v x (Refused r) p q = refused_is_not (some_same q)
+fteid_answer_lem : (v : FTeid) (x : Fteid) (a : Result FTeid code-refusal.Refusal) → fteid_of v ≡ some x → fteid_answer a ≡ some (value x) → a ≡ Ok v
+fteid_answer_lem v x (Ok w) p q = ap Ok (fteid_struct w v x (map_value (fteid_of w) x q) p)
+fteid_answer_lem v x (Err r) p q = refused_is_not (some_same q)
 
 pub fteid_inverse : FteidInverse
 unfolding FteidInverse
@@ -156,4 +156,4 @@ fteid_inverse e = record { back = fteid_read_written e; again = fteid_written_re
 
 pub fteid_code_inverse : FteidCodeInverse
 unfolding FteidCodeInverse FteidInverse write_fteid
-fteid_code_inverse e = code_inverse (fteid_allowed e) fteid_octets fteid_of fteid_answer Value (λ v. refl) fteid_answer_lem (fteid_inverse e)
+fteid_code_inverse e = code_inverse (fteid_allowed e) fteid_octets fteid_of fteid_answer Ok (λ v. refl) fteid_answer_lem (fteid_inverse e)

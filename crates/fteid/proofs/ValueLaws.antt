@@ -1,4 +1,5 @@
 -- F-TEID: what the code tests and reads, in the rules' terms; s the octets, f the flags. Assumes nothing.
+use Rattle.std.specs.Prelude.{Result, Ok, Err}
 use mathlib.Core.Bool.{Bool, true, false, not, ◌&&◌, ◌||◌, false≢true}
 use mathlib.Core.List.{List, [], ◌∷◌, ◌++◌}
 use mathlib.Core.Option.{none, some}
@@ -23,8 +24,6 @@ use Rattle.rules.specs.Elements as rules
 use Rattle.rules.specs.Elements.{Fteid, given, choose, v4_flag, v6_flag, ch_flag, chid_flag, wrong_flags, fteid_length, chosen_fields, given_fields, fteid_fields, address_of, given_tests, fteid_allowed, fteid_octets, read_fteid, write_fteid, write_if, refuse, value, too_short, incorrect}
 use Rattle.element.specs.declared.Refusal.{Refusal}
 use Rattle.fteid.specs.declared.FTeid.{FTeid}
-use Rattle.fteid.specs.declared.Answer.{Answer}
-use Rattle.fteid.specs.declared.Answer.TheVariants.{Value, Refused}
 use Rattle.element.specs.Answers.{refusal_of, allowed_in, write_meant}
 use Rattle.fteid.specs.Meaning.{fteid_answer, fteid_widths, fteid_numbers, fteid_tests, fteid_meant, fteid_of}
 use Rattle.element.proofs.OctetLaws.{part_after, one_octet, fit_at}
@@ -378,8 +377,8 @@ module _ (e : Bool) (v : FTeid) (s : List ℕ) where
 -- ---- what callers ask of an answer
 
 -- the reader's answer, where its case is known: a struct means the value that the rules answer, and a refusal is theirs
-pub answer_value : {a : Answer} {v : FTeid} {y : rules.Answer Fteid} → a ≡ Value v → fteid_answer a ≡ some y → ReadAs (fteid_of v) y
+pub answer_value : {a : Result FTeid Refusal} {v : FTeid} {y : rules.Answer Fteid} → a ≡ Ok v → fteid_answer a ≡ some y → ReadAs (fteid_of v) y
 answer_value {a} {v} {y} p q = read_as (fteid_of v) y (sym (ap fteid_answer p) ∙ q)
 
-pub answer_refused : {a : Answer} {r : Refusal} {y : rules.Answer Fteid} → a ≡ Refused r → fteid_answer a ≡ some y → y ≡ refuse (refusal_of r)
+pub answer_refused : {a : Result FTeid Refusal} {r : Refusal} {y : rules.Answer Fteid} → a ≡ Err r → fteid_answer a ≡ some y → y ≡ refuse (refusal_of r)
 answer_refused p q = sym (some_same (sym (ap fteid_answer p) ∙ q))

@@ -1,15 +1,15 @@
 -- F-TEID: the value that the code's struct means. Assumes nothing.
+use Rattle.std.specs.Prelude.{Result, Ok, Err}
 use Rattle.std.specs.Prelude.{Bool, not, ◌||◌, List, [], ◌∷◌, ◌++◌, ℕ, ◌*◌, ltb}
 use Rattle.std.proofs.Math.Option.{Option, none, some}
 use Rattle.octets.specs.Choice.{pick, all_of, flag, map_option}
 use Rattle.octets.specs.Octets.{be}
 use Rattle.octets.specs.Fields.{fit}
 use Rattle.rules.specs.Elements as rules
-use Rattle.rules.specs.Elements.{Fteid, given, choose, v4_flag, v6_flag, ch_flag, chid_flag, value, refuse, cause_of}
+use Rattle.rules.specs.Elements.{Fteid, given, choose, v4_flag, v6_flag, ch_flag, chid_flag, value, refuse}
+use Rattle.element.specs.declared.Refusal.{Refusal}
 use Rattle.element.specs.Answers.{refusal_of}
 use Rattle.fteid.specs.declared.FTeid.{FTeid}
-use Rattle.fteid.specs.declared.Answer.{Answer}
-use Rattle.fteid.specs.declared.Answer.TheVariants.{Value, Refused}
 
 -- the octets of the flags, the TEID, the IPv4 address, each half of the IPv6 address and the CHOOSE ID; of a field that is not there 0
 unfoldable pub fteid_widths : ℕ → List ℕ
@@ -35,11 +35,6 @@ unfoldable pub fteid_of : FTeid → Option Fteid
 fteid_of v = pick (all_of (fteid_tests v)) (some (fteid_meant v)) none
 
 -- the rules' answer for each case of the reader's
-abbrev pub fteid_answer : Answer → Option (rules.Answer Fteid)
-fteid_answer (Value v) = map_option value (fteid_of v)
-fteid_answer (Refused r) = some (refuse (refusal_of r))
-
--- the cause of each case, 0 of a value
-abbrev pub fteid_cause : Answer → ℕ
-fteid_cause (Value v) = 0
-fteid_cause (Refused r) = cause_of (refusal_of r)
+abbrev pub fteid_answer : Result FTeid Refusal → Option (rules.Answer Fteid)
+fteid_answer (Ok v) = map_option value (fteid_of v)
+fteid_answer (Err r) = some (refuse (refusal_of r))

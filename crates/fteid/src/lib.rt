@@ -7,9 +7,9 @@ ghost use Rattle.octets.specs.Octets.{put};
 ghost use Rattle.octets.specs.Fields.{width_of, field_octets};
 ghost use Rattle.rules.specs.Elements.{wrong_flags, fteid_length, fteid_fields, read_fteid, fteid_allowed, write_fteid};
 ghost use Rattle.element.specs.Answers.{left, write_meant, allowed_in};
-ghost use Rattle.fteid.specs.Meaning.{fteid_widths, fteid_numbers, fteid_of, fteid_answer, fteid_cause};
+ghost use Rattle.fteid.specs.Meaning.{fteid_widths, fteid_numbers, fteid_of, fteid_answer};
 
-use element::{Refusal, Written};
+use element::Refusal;
 
 // Flags (V4 1, V6 2, CH 4, CHID 8) and fields. A field that the flags leave out is 0. The IPv6 address is two numbers
 // of 8 octets.
@@ -21,13 +21,6 @@ pub struct FTeid {
     pub ipv6_high: u64,
     pub ipv6_low: u64,
     pub choose_id: u64,
-}
-
-// The value, or why it is refused.
-#[derive(Clone, Copy)]
-pub enum Answer {
-    Value(FTeid),
-    Refused(Refusal),
 }
 
 // Whether the flags break a rule: no family, CHID without CH, and in a traffic endpoint any CHID.
@@ -91,20 +84,20 @@ fn fields(s: &[u8], flags: u64) -> FTeid
 }
 
 // Reads a value, in a traffic endpoint or not. Octets after it are ignored, and so are the high four bits of the flags.
-pub fn read(s: &[u8], endpoint: bool) -> Answer
+pub fn read(s: &[u8], endpoint: bool) -> Result<FTeid, Refusal>
     ensures { fteid_answer result ≡ some (read_fteid endpoint s.now) }
 {
     if s.len() == 0 {
-        return Answer::Refused(Refusal::TooShort);
+        return Err(Refusal::TooShort);
     }
     let flags = (s[0] % 16) as u64;
     if wrong_flags(flags, endpoint) {
-        return Answer::Refused(Refusal::Incorrect);
+        return Err(Refusal::Incorrect);
     }
     if s.len() <= length_of(flags) {
-        return Answer::Refused(Refusal::TooShort);
+        return Err(Refusal::TooShort);
     }
-    Answer::Value(fields(s, flags))
+    Ok(fields(s, flags))
 }
 
 // How many octets the flags, the TEID, the IPv4 address, each half of the IPv6 address and the CHOOSE ID take.
@@ -160,23 +153,13 @@ pub fn write_at(v: FTeid, out: &mut [u8], at: usize) -> usize
 }
 
 // Writes a value at the start of out, or refuses it, or too little space, and writes nothing. Octets after it stay.
-pub fn write(v: FTeid, endpoint: bool, out: &mut [u8]) -> Written
+pub fn write(v: FTeid, endpoint: bool, out: &mut [u8]) -> Option<usize>
     ensures { left result out.new ≡ write_meant (write_fteid endpoint) (fteid_of v) out.old }
 {
     if !is_allowed(v, endpoint) {
-        return Written::Refused;
+        return None;
     }
     let ws = widths_of(v.flags);
     let vs = numbers_of(v);
     element::write_fields(out, &ws, &vs)
-}
-
-// The cause of the reply for a refusal, and 0 for a value.
-pub fn cause_of(a: Answer) -> u64
-    ensures { result ≡ fteid_cause a }
-{
-    match a {
-        Answer::Value(_) => 0,
-        Answer::Refused(refusal) => element::cause_of(refusal),
-    }
 }

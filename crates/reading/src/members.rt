@@ -66,7 +66,7 @@ fn read_plain(v: &[u8], kind: u64, place: usize, row: &mut [u64]) -> Verdict
 fn refused(answer: Answer, place: usize) -> Verdict
     ensures { result ≡ fteid_refusal place answer }
 {
-    let Answer::Refused(refusal) = answer else {
+    let Err(refusal) = answer else {
         return Verdict::Fine;
     };
     Verdict::Refused(element::cause_of(refusal), types::FTEID, place)
@@ -78,7 +78,7 @@ fn read_fteid(v: &[u8], endpoint: bool, place: usize, row: &mut [u64]) -> Verdic
     ensures { Reads (fteid_read place (read_fteid endpoint v.now) (row_members row.old)) row.new result }
 {
     let answer = fteid::read(v, endpoint);
-    let Answer::Value(x) = answer else {
+    let Ok(x) = answer else {
         return refused(answer, place);
     };
     row[words::FLAGS] = x.flags;
@@ -119,12 +119,12 @@ fn read_ue(v: &[u8], place: usize, row: &mut [u64]) -> Verdict
 {
     let answer = ue_ip::read(v);
     match answer {
-        ue_ip::Answer::Refused(refusal) => Verdict::Refused(
+        Err(refusal) => Verdict::Refused(
             element::cause_of(refusal),
             types::UE_IP_ADDRESS,
             place,
         ),
-        ue_ip::Answer::Value(x) => {
+        Ok(x) => {
             row[words::UE_KIND] = kind_of(x);
             row[words::UE_ADDRESS] = address_of(x);
             Verdict::Fine

@@ -33,7 +33,7 @@ pub enum Step {
 fn refused(answer: Answer, place: usize, d: Draft) -> Step
     ensures { result ≡ seid_refusal place d answer }
 {
-    let Answer::Refused(refusal) = answer else {
+    let Err(refusal) = answer else {
         return Step::Next(d);
     };
     Step::Fault(element::cause_of(refusal), types::FSEID, place)
@@ -47,7 +47,7 @@ fn read_seid(v: &[u8], place: usize, d: Draft) -> Step
         return Step::Fault(causes::INCORRECT, types::FSEID, place);
     }
     let answer = fseid::read(v);
-    let Answer::Value(seid) = answer else {
+    let Ok(seid) = answer else {
         return refused(answer, place, d);
     };
     Step::Next(Draft {

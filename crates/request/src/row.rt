@@ -161,7 +161,7 @@ fn is_count_allowed(message: u64, count: u64) -> bool
 fn csid_refused(answer: Answer, place: usize, d: Draft) -> Step
     ensures { result ≡ csid_refusal place d answer }
 {
-    let Answer::Refused(refusal) = answer else {
+    let Err(refusal) = answer else {
         return Step::Next(d);
     };
     Step::Fault(element::cause_of(refusal), types::FQCSID, place)
@@ -184,7 +184,7 @@ pub(crate) fn read_csid(
         return Step::Next(put_csid(bare(3, 0), words, d));
     }
     let answer = fqcsid::read(v);
-    let Answer::Value(x) = answer else {
+    let Ok(x) = answer else {
         return csid_refused(answer, place, d);
     };
     let node = x.node_type as usize;

@@ -31,10 +31,10 @@ fn element_fault(kind: u64, v: &[u8], place: usize) -> Verdict
         return Verdict::Fine;
     }
     match fqcsid::read(v) {
-        Answer::Refused(refusal) => {
+        Err(refusal) => {
             Verdict::Refused(element::cause_of(refusal), types::FQCSID, place)
         }
-        Answer::Value(x) => {
+        Ok(x) => {
             if x.count == 0 {
                 return Verdict::Refused(causes::INCORRECT, types::FQCSID, place);
             }

@@ -1,4 +1,5 @@
 -- UE IP Address: reading and writing are inverse, of the values that are served. Assumes nothing.
+use Rattle.std.specs.Prelude.{Result, Ok, Err}
 use mathlib.Core.Bool.{Bool, true, false, ◌||◌, false≢true}
 use mathlib.Core.List.{List, [], ◌∷◌, ◌++◌}
 use mathlib.Core.Option.{some}
@@ -21,10 +22,9 @@ use Rattle.element.proofs.AnswerLaws.{some_same}
 use Rattle.element.proofs.TripLaws.{refused_is_not, not_refused, value_same, written, code_inverse}
 use Rattle.ue_ip.specs.declared.UeIp as ue
 use Rattle.ue_ip.specs.declared.UeIp.TheVariants as ue-case
-use Rattle.ue_ip.specs.declared.Answer.{Answer}
-use Rattle.ue_ip.specs.declared.Answer.TheVariants.{Value, Refused}
 use Rattle.ue_ip.specs.Meaning.{ue_of, ue_answer}
 use Rattle.ue_ip.specs.Trips.{WholeUeIp, UeIpInverse, UeIpCodeInverse, canonical, UeIpCanonical, UeIpCodeCanonical}
+use Rattle.element.specs.declared.Refusal as code-refusal
 
 -- an address or a CHOOSE is read from its octets, whatever follows
 given_read : (xs rest : List ℕ) → length xs ≡ 4 → read_ue_ip (2 ∷ xs ++ rest) ≡ value (ue_given (number xs))
@@ -135,13 +135,13 @@ case_of_lem (ue-case.Given a) = refl
 case_of_lem ue-case.Choose = refl
 case_of_lem ue-case.Other = refl
 
-ue_answer_lem : (v : ue.UeIp) (x : UeIp) (a : Answer) → some (ue_of v) ≡ some x → some (ue_answer a) ≡ some (value x) → a ≡ Value v
-ue_answer_lem v x (Value w) p q = ap Value (sym (case_of_lem w) ∙ ap case_of (value_same (some_same q) ∙ sym (some_same p)) ∙ case_of_lem v)
-ue_answer_lem v x (Refused r) p q = refused_is_not (some_same q)
+ue_answer_lem : (v : ue.UeIp) (x : UeIp) (a : Result ue.UeIp code-refusal.Refusal) → some (ue_of v) ≡ some x → some (ue_answer a) ≡ some (value x) → a ≡ Ok v
+ue_answer_lem v x (Ok w) p q = ap Ok (sym (case_of_lem w) ∙ ap case_of (value_same (some_same q) ∙ sym (some_same p)) ∙ case_of_lem v)
+ue_answer_lem v x (Err r) p q = refused_is_not (some_same q)
 
 pub ue_code_inverse : UeIpCodeInverse
 unfolding UeIpCodeInverse UeIpInverse write_ue_ip
-ue_code_inverse = code_inverse ue_allowed ue_octets (λ v. some (ue_of v)) (λ a. some (ue_answer a)) Value (λ v. refl) ue_answer_lem ue_inverse
+ue_code_inverse = code_inverse ue_allowed ue_octets (λ v. some (ue_of v)) (λ a. some (ue_answer a)) Ok (λ v. refl) ue_answer_lem ue_inverse
 
 pub ue_code_canonical : UeIpCodeCanonical
 unfolding UeIpCodeCanonical UeIpCanonical write_ue_ip

@@ -1,16 +1,15 @@
 -- UE IP Address: reading and writing are inverse, of the values that are served. Assumes nothing.
+use Rattle.std.specs.Prelude.{Option, Some}
+use Rattle.std.specs.Prelude.{Ok}
 use Rattle.std.specs.Prelude.{false, List, [], ◌∷◌, ◌≡◌, ℕ, ◌+◌, ◌*◌, ◌≤◌, T, length, take}
 use Rattle.std.proofs.Math.Option.{some}
 use Rattle.octets.specs.Choice.{pick, flag}
 use Rattle.octets.specs.Octets.{bit, octet_at, octets, put}
 use Rattle.rules.specs.Elements as rules
 use Rattle.rules.specs.Elements.{ue_v4, ue_chv4, ue_unsupported, read_ue_ip, ue_allowed, ue_strange, ue_octets, write_ue_ip, value}
-use Rattle.element.specs.declared.Written.{Written}
-use Rattle.element.specs.declared.Written.TheVariants.{Octets}
 use Rattle.element.specs.Answers.{left}
 use Rattle.element.specs.Trips.{Inverse, CodeInverse}
 use Rattle.ue_ip.specs.declared.UeIp.{UeIp}
-use Rattle.ue_ip.specs.declared.Answer.TheVariants.{Value}
 use Rattle.ue_ip.specs.Meaning.{ue_of, ue_answer}
 
 -- octets of a value that is served, with nothing that a reader ignores: neither S/D nor bit 8 of the flags, and no octet left over
@@ -24,7 +23,7 @@ unfoldable pub UeIpInverse : Type 0
 UeIpInverse = Inverse read_ue_ip WholeUeIp ue_allowed ue_octets
 
 unfoldable pub UeIpCodeInverse : Type 0
-UeIpCodeInverse = CodeInverse read_ue_ip WholeUeIp write_ue_ip (λ v. some (ue_of v)) (λ a. some (ue_answer a)) Value
+UeIpCodeInverse = CodeInverse read_ue_ip WholeUeIp write_ue_ip (λ v. some (ue_of v)) (λ a. some (ue_answer a)) Ok
 
 -- octets without what a reader ignores: the flag V4 with four octets, or CHV4 alone
 unfoldable pub canonical : List ℕ → List ℕ
@@ -37,5 +36,5 @@ UeIpCanonical = (s : List ℕ) (v : rules.UeIp) → T (octets s) → read_ue_ip 
 
 unfoldable pub UeIpCodeCanonical : Type 0
 UeIpCodeCanonical =
-    (s : List ℕ) (v : UeIp) (r : Written) (space after : List ℕ) → T (octets s) → ue_answer (Value v) ≡ read_ue_ip s → ue_strange (ue_of v) ≡ false
-    → length (canonical s) ≤ length space → left r after ≡ write_ue_ip (ue_of v) space → (r ≡ Octets (length (canonical s))) × (after ≡ put 0 (canonical s) space)
+    (s : List ℕ) (v : UeIp) (r : Option ℕ) (space after : List ℕ) → T (octets s) → ue_answer (Ok v) ≡ read_ue_ip s → ue_strange (ue_of v) ≡ false
+    → length (canonical s) ≤ length space → left r after ≡ write_ue_ip (ue_of v) space → (r ≡ Some (length (canonical s))) × (after ≡ put 0 (canonical s) space)

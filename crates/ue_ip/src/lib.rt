@@ -5,9 +5,9 @@ ghost use Rattle.std.specs.Prelude.{◌≡◌, ◌+◌, ◌≤◌, length};
 ghost use Rattle.octets.specs.Octets.{put};
 ghost use Rattle.rules.specs.Elements.{ue_octets, ue_given, ue_choose, ue_unsupported, read_ue_ip, write_ue_ip};
 ghost use Rattle.element.specs.Answers.{left};
-ghost use Rattle.ue_ip.specs.Meaning.{ue_of, ue_answer, ue_cause};
+ghost use Rattle.ue_ip.specs.Meaning.{ue_of, ue_answer};
 
-use element::{Refusal, Written};
+use element::Refusal;
 
 // An address; a CHOOSE; or a value with what the unit does not have, of which no more is read.
 #[derive(Clone, Copy)]
@@ -15,13 +15,6 @@ pub enum UeIp {
     Given(u64),
     Choose,
     Other,
-}
-
-// The value, or why it is refused.
-#[derive(Clone, Copy)]
-pub enum Answer {
-    Value(UeIp),
-    Refused(Refusal),
 }
 
 // Whether the flags ask for what the unit does not have: V6 (1), IPv6D (8), CHV6 (32) or IP6PL (64).
@@ -35,28 +28,28 @@ fn is_unsupported(flags: u64) -> bool
 }
 
 // Reads a value. Octets after it are ignored, and so are S/D (4) and bit 8 of the flags.
-pub fn read(s: &[u8]) -> Answer
+pub fn read(s: &[u8]) -> Result<UeIp, Refusal>
     ensures { ue_answer result ≡ read_ue_ip s.now }
 {
     if s.len() == 0 {
-        return Answer::Refused(Refusal::TooShort);
+        return Err(Refusal::TooShort);
     }
     let flags = s[0] as u64;
     if is_unsupported(flags) {
-        return Answer::Value(UeIp::Other);
+        return Ok(UeIp::Other);
     }
     let v4 = flags / 2 % 2;
     let chv4 = flags / 16 % 2;
     if v4 == chv4 {
-        return Answer::Refused(Refusal::Incorrect);
+        return Err(Refusal::Incorrect);
     }
     if chv4 == 1 {
-        return Answer::Value(UeIp::Choose);
+        return Ok(UeIp::Choose);
     }
     if s.len() < 5 {
-        return Answer::Refused(Refusal::TooShort);
+        return Err(Refusal::TooShort);
     }
-    Answer::Value(UeIp::Given(octets::read(s, 1, 4)))
+    Ok(UeIp::Given(octets::read(s, 1, 4)))
 }
 
 // Writes the octets of an address with V4 from a place on; the answer is the place after them.
@@ -70,46 +63,36 @@ pub fn write_at(address: u64, out: &mut [u8], at: usize) -> usize
 }
 
 // Writes an address with V4, or refuses one of more than four octets, or too little space.
-fn write_given(address: u64, out: &mut [u8]) -> Written
+fn write_given(address: u64, out: &mut [u8]) -> Option<usize>
     ensures { left result out.new ≡ write_ue_ip (ue_given address) out.old }
 {
     if 4294967295 < address {
-        return Written::Refused;
+        return None;
     }
     if out.len() < 5 {
-        return Written::Refused;
+        return None;
     }
-    Written::Octets(write_at(address, out, 0))
+    Some(write_at(address, out, 0))
 }
 
 // Writes CHV4 alone, or refuses an empty space.
-fn write_choose(out: &mut [u8]) -> Written
+fn write_choose(out: &mut [u8]) -> Option<usize>
     ensures { left result out.new ≡ write_ue_ip ue_choose out.old }
 {
     if out.len() < 1 {
-        return Written::Refused;
+        return None;
     }
     octets::write(out, 0, 1, 16);
-    Written::Octets(1)
+    Some(1)
 }
 
 // Writes a value at the start of out, or refuses it, or too little space, and writes nothing. Octets after it stay.
-pub fn write(v: UeIp, out: &mut [u8]) -> Written
+pub fn write(v: UeIp, out: &mut [u8]) -> Option<usize>
     ensures { left result out.new ≡ write_ue_ip (ue_of v) out.old }
 {
     match v {
         UeIp::Given(address) => write_given(address, out),
         UeIp::Choose => write_choose(out),
-        UeIp::Other => Written::Refused,
-    }
-}
-
-// The cause of the reply for a refusal, and 0 for a value.
-pub fn cause_of(a: Answer) -> u64
-    ensures { result ≡ ue_cause a }
-{
-    match a {
-        Answer::Value(_) => 0,
-        Answer::Refused(refusal) => element::cause_of(refusal),
+        UeIp::Other => None,
     }
 }

@@ -18,11 +18,11 @@ fn first_refusal(tunnel: &[u8], csid: &[u8]) -> u64
     ensures { result ≡ first_cause (read_fteid false tunnel.now) (read_fqcsid csid.now) }
 {
     let a = fteid::read(tunnel, false);
-    let fteid::Answer::Value(_) = a else {
+    let Ok(_) = a else {
         return fteid::cause_of(a);
     };
     let b = fqcsid::read(csid);
-    let fqcsid::Answer::Value(_) = b else {
+    let Ok(_) = b else {
         return fqcsid::cause_of(b);
     };
     0
@@ -45,15 +45,15 @@ fn refused(rt: &impl Print, cause: u64) -> io::Result<()> {
 fn written(rt: &impl Print, w: Written, s: &[u8]) -> io::Result<()> {
     let n = s.len();
     match w {
-        Written::Octets(count) => number(rt, count as u64)?,
-        Written::Refused => print!(rt; "refused ")?,
+        Some(count) => number(rt, count as u64)?,
+        None => print!(rt; "refused ")?,
     }
     line(rt, s, n)
 }
 
 fn tunnel(rt: &impl Print, s: &[u8], endpoint: bool) -> io::Result<()> {
     let a = fteid::read(s, endpoint);
-    let fteid::Answer::Value(v) = a else {
+    let Ok(v) = a else {
         return refused(rt, fteid::cause_of(a));
     };
     number(rt, v.flags)?;
@@ -64,7 +64,7 @@ fn tunnel(rt: &impl Print, s: &[u8], endpoint: bool) -> io::Result<()> {
     number(rt, v.choose_id)?;
     let mut out = [0xaau8; 26];
     let w = fteid::write(v, endpoint, &mut out);
-    let Written::Octets(n) = w else {
+    let Some(n) = w else {
         return println!(rt; "not written");
     };
     line(rt, &out, n)
@@ -72,7 +72,7 @@ fn tunnel(rt: &impl Print, s: &[u8], endpoint: bool) -> io::Result<()> {
 
 fn csid(rt: &impl Print, s: &[u8]) -> io::Result<()> {
     let a = fqcsid::read(s);
-    let fqcsid::Answer::Value(v) = a else {
+    let Ok(v) = a else {
         return refused(rt, fqcsid::cause_of(a));
     };
     number(rt, v.id_type)?;
@@ -86,7 +86,7 @@ fn csid(rt: &impl Print, s: &[u8]) -> io::Result<()> {
     number(rt, v.node_type)?;
     let mut out = [0xaau8; 48];
     let w = fqcsid::write(v, &mut out);
-    let Written::Octets(n) = w else {
+    let Some(n) = w else {
         return println!(rt; "not written");
     };
     line(rt, &out, n)
@@ -95,13 +95,13 @@ fn csid(rt: &impl Print, s: &[u8]) -> io::Result<()> {
 // A SEID is written as a reply has it, with 192.0.2.1.
 fn seid(rt: &impl Print, s: &[u8]) -> io::Result<()> {
     let a = fseid::read(s);
-    let fseid::Answer::Value(n) = a else {
+    let Ok(n) = a else {
         return refused(rt, fseid::cause_of(a));
     };
     number(rt, n)?;
     let mut out = [0xaau8; 16];
     let w = fseid::write(n, 0xc0000201, &mut out);
-    let Written::Octets(count) = w else {
+    let Some(count) = w else {
         return println!(rt; "not written");
     };
     line(rt, &out, count)
@@ -117,7 +117,7 @@ fn kind(rt: &impl Print, v: &UeIp) -> io::Result<()> {
 
 fn address(rt: &impl Print, s: &[u8]) -> io::Result<()> {
     let a = ue_ip::read(s);
-    let ue_ip::Answer::Value(v) = a else {
+    let Ok(v) = a else {
         return refused(rt, ue_ip::cause_of(a));
     };
     kind(rt, &v)?;

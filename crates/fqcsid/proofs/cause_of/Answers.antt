@@ -1,7 +1,0 @@
--- `fqcsid::cause_of` meets its contract, by the arms of its match. Assumes nothing.
-use mathlib.Core.Path.{sym, ap, ◌∙◌}
-use Rattle.fqcsid.specs.Meaning.{fqcsid_cause}
-use Rattle.fqcsid.proofs.cause_of.Goals as goal
-
-pub returns-in-Refused : goal.returns-in-Refused
-returns-in-Refused c = c.cause_of.ensures ∙ ap fqcsid_cause (sym c.in-Refused.is)

@@ -1,7 +1,0 @@
--- `fteid::cause_of` meets its contract, by the arms of its match. Assumes nothing.
-use mathlib.Core.Path.{sym, ap, ◌∙◌}
-use Rattle.fteid.specs.Meaning.{fteid_cause}
-use Rattle.fteid.proofs.cause_of.Goals as goal
-
-pub returns-in-Refused : goal.returns-in-Refused
-returns-in-Refused c = c.cause_of.ensures ∙ ap fteid_cause (sym c.in-Refused.is)
