@@ -15,8 +15,10 @@ use Rattle.octets.specs.Lists.{keep}
 use Rattle.octets.proofs.Put.{part_from}
 use Rattle.rules.specs.Message.{Element, element_type, element_length, elements_up_to, elements, has_type}
 use Rattle.laws.proofs.MessageLaws.{el, elements_nil, shorter, elements_enough, counts_alike}
-use Rattle.frame.specs.FirstOf.{first_of}
-use Rattle.frame.specs.declared.First.TheVariants as first
+use Rattle.std.specs.Prelude.{Some, None}
+use Rattle.std.proofs.lemmas.Option.{same_Some}
+use Rattle.frame.specs.declared.Element as code
+use Rattle.frame.specs.FirstOf.{there, first_of}
 
 by_front : (at : ℕ) (s : List ℕ)
     → elements at s ≡ pick (ltb (length s) 4) [] (el at (element_type s) (part 4 (element_length s) s) ∷ elements (at + (4 + element_length s)) (drop (4 + element_length s) s))
@@ -35,11 +37,15 @@ pub record Front (s : List ℕ) (t e : ℕ) : Type 0 where
   pub less : length (take (length s - e) (drop e s)) < length s
   pub cons : (at : ℕ) → elements at s ≡ el at t (take (e - 4) (drop 4 s)) ∷ elements (at + e) (take (length s - e) (drop e s))
 
-pub none_left : (at : ℕ) (s : List ℕ) → first.Done ≡ first_of s → elements at s ≡ []
+-- the type and the octets of what is there are those of one element
+same_there : {t e u f : ℕ} → there t e ≡ there u f → (t ≡ u) × (e ≡ f)
+same_there h = let s = same_Some _ _ h in (ap (λ (x : code.Element). x.kind) s, ap (λ (x : code.Element). x.end) s)
+
+pub none_left : (at : ℕ) (s : List ℕ) → None ≡ first_of s → elements at s ≡ []
 unfolding first_of
 none_left at s = go (ltb (length s) 4) (ltb (length s) (4 + element_length s)) refl
   where
-    go : (a b : Bool) → ltb (length s) 4 ≡ a → first.Done ≡ pick a first.Done (pick b (first.Element (element_type s) (length s)) (first.Element (element_type s) (4 + element_length s))) → elements at s ≡ []
+    go : (a b : Bool) → ltb (length s) 4 ≡ a → None ≡ pick a None (pick b (there (element_type s) (length s)) (there (element_type s) (4 + element_length s))) → elements at s ≡ []
     go true b p h = by_front at s ∙ rw p
     go false true p h = let z : ◌≡◌ {A = ℕ} 0 1 = cc in absurd (omega arith)
     go false false p h = let z : ◌≡◌ {A = ℕ} 0 1 = cc in absurd (omega arith)
@@ -53,31 +59,34 @@ front_at s t e low high p q r = record {
   cons = λ at. by_front at s ∙ rw (le-ltb (length s) 4 (omega arith), q, r at, ← p, part_from e s);
 }
 
-pub front : (s : List ℕ) (t e : ℕ) → first.Element t e ≡ first_of s → Front s t e
+front_there : (s : List ℕ) (t e : ℕ) → there t e ≡ first_of s → Front s t e
 unfolding first_of
-front s t e = go (ltb (length s) 4) (ltb (length s) (4 + element_length s)) refl refl
+front_there s t e = go (ltb (length s) 4) (ltb (length s) (4 + element_length s)) refl refl
   where
     none_after : (at i : ℕ) → length s ≤ i → elements at (drop i s) ≡ []
     none_after at i h = ap (elements at) (drop_of_length-le s {i = i} h) ∙ elements_nil at
 
     go : (a b : Bool) → ltb (length s) 4 ≡ a → ltb (length s) (4 + element_length s) ≡ b
-        → first.Element t e ≡ pick a first.Done (pick b (first.Element (element_type s) (length s)) (first.Element (element_type s) (4 + element_length s))) → Front s t e
+        → there t e ≡ pick a None (pick b (there (element_type s) (length s)) (there (element_type s) (4 + element_length s))) → Front s t e
     go true b p q h = let z : ◌≡◌ {A = ℕ} 0 1 = cc in absurd (omega arith)
     go false true p q h =
-        let m : t ≡ element_type s = cc in
-        let n : e ≡ length s = cc in
+        let m : t ≡ element_type s = (same_there h).0 in
+        let n : e ≡ length s = (same_there h).1 in
         let low : 4 ≤ length s = ltb-false (length s) 4 p in
         let over : length s < 4 + element_length s = ltb-true (length s) (4 + element_length s) q in
         front_at s t e (omega arith) (omega arith) m
         (take_all (element_length s) (drop 4 s) (rw length-drop (omega arith)) ∙ sym (take_all (e - 4) (drop 4 s) (rw length-drop (omega arith))))
         (λ at. none_after (at + (4 + element_length s)) (4 + element_length s) (omega arith) ∙ sym (none_after (at + e) e (omega arith)))
     go false false p q h =
-        let m : t ≡ element_type s = cc in
-        let n : e ≡ 4 + element_length s = cc in
+        let m : t ≡ element_type s = (same_there h).0 in
+        let n : e ≡ 4 + element_length s = (same_there h).1 in
         let low : 4 ≤ length s = ltb-false (length s) 4 p in
         let whole : 4 + element_length s ≤ length s = ltb-false (length s) (4 + element_length s) q in
         let k : element_length s ≡ e - 4 = omega arith in
         front_at s t e (omega arith) (omega arith) m (ap (λ (i : ℕ). take i (drop 4 s)) k) (λ at. ap (λ (i : ℕ). elements (at + i) (drop i s)) (sym n))
+
+pub front : (s : List ℕ) (x : code.Element) → Some x ≡ first_of s → Front s x.kind x.end
+front s x h = front_there s x.kind x.end h
 
 -- the octets after the element at the front
 abbrev pub behind : List ℕ → ℕ → List ℕ
@@ -114,16 +123,16 @@ module _ (kind at t : ℕ) (v : List ℕ) where
 
 -- ---- the laws of the functions
 
-pub first_short : (s : List ℕ) → length s < 4 → first.Done ≡ first_of s
+pub first_short : (s : List ℕ) → length s < 4 → None ≡ first_of s
 unfolding first_of
 first_short s h = rw (lt-ltb (length s) 4 h)
 
 module _ (s : List ℕ) (long : 4 ≤ length s) (t n : ℕ) (type : t ≡ number (part 0 2 s)) (size : n ≡ number (part 2 2 s)) where
-  pub first_over : length s < 4 + n → first.Element t (length s) ≡ first_of s
+  pub first_over : length s < 4 + n → there t (length s) ≡ first_of s
   unfolding first_of element_type element_length number_at
   first_over h = rw (le-ltb (length s) 4 long, ← size, lt-ltb (length s) (4 + n) h, type)
 
-  pub first_whole : 4 + n ≤ length s → first.Element t (4 + n) ≡ first_of s
+  pub first_whole : 4 + n ≤ length s → there t (4 + n) ≡ first_of s
   unfolding first_of element_type element_length number_at
   first_whole h = rw (le-ltb (length s) 4 long, ← size, le-ltb (length s) (4 + n) h, type)
 

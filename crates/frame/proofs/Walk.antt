@@ -16,8 +16,8 @@ use Rattle.octets.specs.Lists.{member}
 use Rattle.octets.proofs.Put.{part_from}
 use Rattle.rules.specs.Message.{inside, element_type, element_length, opened_in, Spot, spot, inner_fault, frame_up_to, frame}
 use Rattle.frame.specs.Framed.{framing_fault}
-use Rattle.frame.specs.declared.Framing.{Framing}
-use Rattle.frame.specs.declared.Framing.TheVariants.{Fault}
+use Rattle.std.specs.Prelude.{Result, Err}
+use Rattle.frame.specs.declared.Spot as code
 use Rattle.laws.proofs.MessageLaws.{shorter, frame_enough}
 
 -- ---- parts from a place on
@@ -87,7 +87,7 @@ module _ (d m g p at : ℕ) (s : List ℕ) (deep : d ≡ 0 → ⊥) (some_left :
         let e : n - 4 ≡ element_length s = omega arith in
         rw (by_front d m (spot g p) at s deep some_left, le-ltb (length s) 4 long, ← size, le-ltb (length s) n h, ← type, e)
 
-    pub fault_inside_lem : {r : Framing} {x y : ℕ} → n ≤ length s → fault_inside d m g t at (take (n - 4) (drop 4 s)) ≡ framing_fault r → r ≡ Fault x y → framing_fault r ≡ here at s
+    pub fault_inside_lem : {A : Type 0} {r : Result A code.Spot} {x : code.Spot} → n ≤ length s → fault_inside d m g t at (take (n - 4) (drop 4 s)) ≡ framing_fault r → r ≡ Err x → framing_fault r ≡ here at s
     fault_inside_lem h e q = rw (whole h, e, q)
 
     pub sound_inside : n ≤ length s → fault_inside d m g t at (take (n - 4) (drop 4 s)) ≡ none → here at s ≡ here (at + n) (take (length s - n) (drop n s))

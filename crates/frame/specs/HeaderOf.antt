@@ -1,11 +1,13 @@
 -- What the header of a message says: the host outcome, the type and the header's SEID, or that it is a set deletion's.
 -- Assumes nothing.
-use Rattle.std.specs.Prelude.{ℕ, ◌≤◌, not, true, false, List, length, ltb, eqb, ◌≡◌}
+use Rattle.std.specs.Prelude.{ℕ, ◌≤◌, not, true, false, List, length, ltb, eqb, ◌≡◌, Result, Ok, Err}
 use Rattle.octets.specs.Choice.{pick}
 use Rattle.rules.specs.Limits.{max_message}
 use Rattle.rules.specs.Message.{set_deletion, header_allowed, served, kind_of, header_seid, seid_there}
 use Rattle.frame.specs.declared.header.Header.{Header}
-use Rattle.frame.specs.declared.header.Header.TheVariants.{TooLong, Malformed, NotServed, Request, Sets}
+use Rattle.frame.specs.declared.header.Header.TheVariants.{Request, Sets}
+use Rattle.frame.specs.declared.header.Unserved.{Unserved}
+use Rattle.frame.specs.declared.header.Unserved.TheVariants.{TooLong, Malformed, NotServed}
 
 -- a host outcome by 01's number; a request: its type and the SEID of its header; a set deletion
 pub data Opening : Type 0 where
@@ -14,12 +16,12 @@ pub data Opening : Type 0 where
   sets : Opening
 
 -- what each answer means
-abbrev pub opened : Header → Opening
-opened TooLong = outcome 3
-opened Malformed = outcome 4
-opened NotServed = outcome 5
-opened (Request kind seid) = request kind seid
-opened Sets = sets
+abbrev pub opened : Result Header Unserved → Opening
+opened (Err TooLong) = outcome 3
+opened (Err Malformed) = outcome 4
+opened (Err NotServed) = outcome 5
+opened (Ok (Request kind seid)) = request kind seid
+opened (Ok Sets) = sets
 
 -- an allowed header with a SEID
 pub record SessionHeader (msg : List ℕ) : Type 0 where

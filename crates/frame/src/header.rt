@@ -7,14 +7,20 @@ ghost use Rattle.rules.specs.Message.{body_place, list_place, first_octet_allowe
 
 use format::{header, kinds};
 
+// Why a message is not served.
 #[derive(Clone, Copy)]
-pub enum Header {
+pub enum Unserved {
     // Over 2,048 octets: outcome 3.
     TooLong,
     // Under 16 octets (8 in a set deletion), or version, S, FO or length wrong: outcome 4.
     Malformed,
     // The type is not served: outcome 5.
     NotServed,
+}
+
+// What the header of a message says that is served.
+#[derive(Clone, Copy)]
+pub enum Header {
     // The type, and the SEID of the header.
     Request(u64, u64),
     // A set deletion, whose header has no SEID.
@@ -74,21 +80,21 @@ fn is_served(kind: u64) -> bool
 }
 
 // What the header of msg says.
-pub fn read_header(msg: &[u8]) -> Header
+pub fn read_header(msg: &[u8]) -> Result<Header, Unserved>
     ensures { opened result ≡ header_of msg.now }
 {
     if format::MESSAGE < msg.len() {
-        return Header::TooLong;
+        return Err(Unserved::TooLong);
     }
     if !allowed(msg) {
-        return Header::Malformed;
+        return Err(Unserved::Malformed);
     }
     let kind = octets::read(msg, header::KIND, 1);
     if !is_served(kind) {
-        return Header::NotServed;
+        return Err(Unserved::NotServed);
     }
     if kind == kinds::SET_DELETION {
-        return Header::Sets;
+        return Ok(Header::Sets);
     }
-    Header::Request(kind, octets::read(msg, header::SEID, 8))
+    Ok(Header::Request(kind, octets::read(msg, header::SEID, 8)))
 }

@@ -14,13 +14,12 @@ use format::{kinds, types};
 
 pub mod header;
 
-// What the framing of a message or of a group finds.
+// Where a fault of the framing stands: the type at fault and its place in the message, of an element that runs past its end, or of the group
+// (0 at 0: the message) where under 4 octets are left.
 #[derive(Clone, Copy)]
-pub enum Framing {
-    Framed,
-    // The type at fault and its place in the message: of an element that runs past its end, or of the group (0 at 0: the message) where under
-    // 4 octets are left.
-    Fault(u64, usize),
+pub struct Spot {
+    pub kind: u64,
+    pub place: usize,
 }
 
 // Whether an element of type kind is a group that is opened at the place group (0: the message) of a message of type message.
@@ -54,46 +53,50 @@ fn opens(message: u64, group: u64, kind: u64) -> bool
 
 // The first fault in the framing of s, the value of the group at a place or (group 0) the elements of the message, with so many depths left.
 // The first octet of s stands at base. A group's value is handed on as a part of s.
-fn first_fault(s: &[u8], message: u64, group: u64, place: usize, base: usize, depth: u64) -> Framing
+fn first_fault(
+    s: &[u8],
+    message: u64,
+    group: u64,
+    place: usize,
+    base: usize,
+    depth: u64,
+) -> Result<(), Spot>
     requires { base + length s.now < 2 ^ 64 }
     ensures { framing_fault result ≡ frame depth message (spot group place) base s.now }
 {
     if depth == 0 {
-        return Framing::Framed;
+        return Ok(());
     }
     let mut rest = s;
     let mut at = base;
     while 0 < rest.len() {
         if rest.len() < 4 {
-            return Framing::Fault(group, place);
+            return Err(Spot { kind: group, place });
         }
         let kind = octets::read(rest, 0, 2);
         let end = 4 + octets::read(rest, 2, 2) as usize;
         if rest.len() < end {
-            return Framing::Fault(kind, at);
+            return Err(Spot { kind, place: at });
         }
         if opens(message, group, kind) {
-            let inner = first_fault(&rest[4..end], message, kind, at, at + 4, depth - 1);
-            let Framing::Framed = inner else {
-                return inner;
-            };
+            first_fault(&rest[4..end], message, kind, at, at + 4, depth - 1)?;
         }
         rest = &rest[end..];
         at += end;
     }
-    Framing::Framed
+    Ok(())
 }
 
 // Stage 2 of a message, the header of which is allowed: groups nest at most three deep, the message counted.
-pub fn frame_fault(msg: &[u8]) -> Framing
+pub fn frame_fault(msg: &[u8]) -> Result<(), Spot>
     ensures { framing_fault result ≡ frame_fault msg.now }
 {
     if msg.len() < format::header::LIST_BODY {
-        return Framing::Framed;
+        return Ok(());
     }
     let at = header::length_of(msg[0]);
     if msg.len() < at {
-        return Framing::Framed;
+        return Ok(());
     }
     first_fault(
         &msg[at..],
@@ -105,28 +108,26 @@ pub fn frame_fault(msg: &[u8]) -> Framing
     )
 }
 
-// What stands at the front of some octets.
+// An element at the front of some octets: its type, and how many octets it takes. Its value starts at octet 4.
 #[derive(Clone, Copy)]
-pub enum First {
-    // Under 4 octets.
-    Done,
-    // An element: its type, and the octets that it takes. Its value starts at octet 4.
-    Element(u64, usize),
+pub struct Element {
+    pub kind: u64,
+    pub end: usize,
 }
 
-// The element at the front of s.
-pub fn first_of(s: &[u8]) -> First
+// The element at the front of s, unless under 4 octets are there.
+pub fn first_of(s: &[u8]) -> Option<Element>
     ensures { result ≡ first_of s.now }
 {
     if s.len() < 4 {
-        return First::Done;
+        return None;
     }
     let kind = octets::read(s, 0, 2);
     let end = 4 + octets::read(s, 2, 2) as usize;
     if s.len() < end {
-        return First::Element(kind, s.len());
+        return Some(Element { kind, end: s.len() });
     }
-    First::Element(kind, end)
+    Some(Element { kind, end })
 }
 
 // How many elements of s have the type kind; their places do not matter.
@@ -135,13 +136,11 @@ pub fn count(s: &[u8], kind: u64) -> usize
 {
     let mut rest = s;
     let mut n = 0;
-    loop {
-        let First::Element(found, end) = first_of(rest) else {
-            return n;
-        };
-        if found == kind {
+    while let Some(element) = first_of(rest) {
+        if element.kind == kind {
             n += 1;
         }
-        rest = &rest[end..];
+        rest = &rest[element.end..];
     }
+    n
 }

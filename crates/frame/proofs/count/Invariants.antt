@@ -6,8 +6,8 @@ use Rattle.rules.specs.Message.{elements}
 use Rattle.frame.proofs.Front.{count_of}
 use Rattle.frame.proofs.count.Given as goal
 
-abbrev pub invariant-loop-found : goal.invariant-loop-found
-invariant-loop-found l = (l.n + length l.rest ≤ length l.s) × (count_of l.kind (elements 0 l.s) ≡ l.n + count_of l.kind (elements 0 l.rest))
+abbrev pub invariant-loop-element : goal.invariant-loop-element
+invariant-loop-element l = (l.n + length l.rest ≤ length l.s) × (count_of l.kind (elements 0 l.s) ≡ l.n + count_of l.kind (elements 0 l.rest))
 
-abbrev pub decreases-loop-found : goal.decreases-loop-found
-decreases-loop-found l = length l.rest
+abbrev pub decreases-loop-element : goal.decreases-loop-element
+decreases-loop-element l = length l.rest
