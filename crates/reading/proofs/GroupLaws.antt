@@ -24,9 +24,10 @@ use Rattle.frame.proofs.Among.{OneOf}
 use Rattle.frame.proofs.Walk.{value_places}
 use Rattle.laws.proofs.MessageLaws.{el}
 use Rattle.frame.proofs.Front.{Front, behind}
-use Rattle.reading.specs.declared.Verdict.{Verdict}
-use Rattle.reading.specs.declared.Verdict.TheVariants.{Fine, Refused}
-use Rattle.reading.specs.Verdicts.{stopped, numbered, outcome}
+use Rattle.std.specs.Prelude.{Result, Ok, Err}
+use Rattle.std.specs.Result.{result_and}
+use Rattle.reading.specs.declared.Fault.{Fault}
+use Rattle.reading.specs.Verdicts.{stopped, numbered, outcome, fault, fine}
 use Rattle.reading.specs.Rows.{there_word, row_members, Tidy, Reads, own_read, is_pdi, closing, closed_read}
 use Rattle.reading.proofs.Places.{pdi_in_create, pdi_type}
 use Rattle.reading.proofs.MemberLaws.{stops, is_done}
@@ -38,66 +39,81 @@ need_then c t p none k j = refl
 need_then c t p (some a) k j = refl
 
 -- a word that is 0 is a member that is missing
-module _ {A : Type 0} (m : A) (next : Verdict) (c : Refusal) (t p : ℕ) where
-  lacks : (a v : ℕ) (k : ℕ → Reading A) → a ≤ 1 → outcome next m ≡ numbered (k v) → outcome (pick (eqb a 0) (Refused (cause_of c) t p) next) m ≡ numbered (requiring c t p (present a v) k)
+module _ {A : Type 0} (m : A) (next : Result (Unit {0}) Fault) (c : Refusal) (t p : ℕ) where
+  lacks : (a v : ℕ) (k : ℕ → Reading A) → a ≤ 1 → outcome next m ≡ numbered (k v) → outcome (pick (eqb a 0) (fault (cause_of c) t p) next) m ≡ numbered (requiring c t p (present a v) k)
   unfolding present
   lacks zero v k l h = refl
   lacks (suc zero) v k l h = h
   lacks (suc (suc a)) v k l h = absurd (omega arith)
 
   lacks_then : {B : Type 0} (a v : ℕ) (k : ℕ → Reading B) (j : B → Reading A) → a ≤ 1 → outcome next m ≡ numbered (and_then (k v) j)
-      → outcome (pick (eqb a 0) (Refused (cause_of c) t p) next) m ≡ numbered (and_then (requiring c t p (present a v) k) j)
+      → outcome (pick (eqb a 0) (fault (cause_of c) t p) next) m ≡ numbered (and_then (requiring c t p (present a v) k) j)
   lacks_then a v k j l h = lacks a v (λ x. and_then (k x) j) l h ∙ sym (ap (λ (x : Reading A). numbered x) (need_then c t p (present a v) k j))
 
   lacks_pdi : {B : Type 0} (a : ℕ) (r : Reading B) (j : B → Reading A) → a ≤ 1 → outcome next m ≡ numbered (and_then r j)
-      → outcome (pick (eqb a 0) (Refused (cause_of c) t p) next) m ≡ numbered (and_then (pick (eqb a 1) r (refusal_at c t p)) j)
+      → outcome (pick (eqb a 0) (fault (cause_of c) t p) next) m ≡ numbered (and_then (pick (eqb a 1) r (refusal_at c t p)) j)
   lacks_pdi zero r j l h = refl
   lacks_pdi (suc zero) r j l h = h
   lacks_pdi (suc (suc a)) r j l h = absurd (omega arith)
 
   lacks_local : {B : Type 0} (b : Bool) (v : Fteid) (k : Fteid → Reading B) (j : B → Reading A) → outcome next m ≡ numbered (and_then (k v) j)
-      → outcome (pick b (Refused (cause_of c) t p) next) m ≡ numbered (and_then (requiring c t p (pick b none (some v)) k) j)
+      → outcome (pick b (fault (cause_of c) t p) next) m ≡ numbered (and_then (requiring c t p (pick b none (some v)) k) j)
   lacks_local true v k j h = refl
   lacks_local false v k j h = h
 
 -- the answers of `require`, one in the other, and a group's end
-abbrev Required : List ℕ → ℕ → ℕ → ℕ → Verdict → Verdict → Type 0
-Required row c p t next r = r ≡ pick (eqb (word (there_word t) row) 0) (Refused c t p) next
+abbrev Required : List ℕ → ℕ → ℕ → ℕ → (Result (Unit {0}) Fault) → (Result (Unit {0}) Fault) → Type 0
+Required row c p t next r = r ≡ pick (eqb (word (there_word t) row) 0) (fault c t p) next
 
-abbrev Ends : List ℕ → ℕ → ℕ → Verdict → Type 0
+-- a requirement and what follows it, where that is met
+and_pick : (b : Bool) (f : Fault) (s : Result (Unit {0}) Fault) → result_and (pick b (Err f) fine) s ≡ pick b (Err f) s
+and_pick true f s = refl
+and_pick false f s = refl
+
+and_assoc : (a b c : Result (Unit {0}) Fault) → result_and (result_and a b) c ≡ result_and a (result_and b c)
+and_assoc (Ok x) b c = refl
+and_assoc (Err f) b c = refl
+
+pub required_and : (row : List ℕ) (c p t : ℕ) (r next : Result (Unit {0}) Fault) → Required row c p t fine r → Required row c p t next (result_and r next)
+required_and row c p t r next h = rw h (and_pick (eqb (word (there_word t) row) 0) _ next)
+
+pub and_four : (r₁ r₂ r₃ r₄ x y z : Result (Unit {0}) Fault) → x ≡ result_and r₁ r₂ → y ≡ result_and x r₃ → z ≡ result_and y r₄ → z ≡ result_and r₁ (result_and r₂ (result_and r₃ r₄))
+and_four r₁ r₂ r₃ r₄ x y z e f g = rw (g, f, e) (and_assoc (result_and r₁ r₂) r₃ r₄ ∙ and_assoc r₁ r₂ (result_and r₃ r₄))
+
+abbrev Ends : List ℕ → ℕ → ℕ → (Result (Unit {0}) Fault) → Type 0
 Ends row g p r = outcome r (row_members row) ≡ numbered (closing g p (row_members row))
 
 module _ (row : List ℕ) (z : Tidy row) (g p : ℕ) where
-  pub ends_pdi : {a : Verdict} → g ≡ ie.pdi → Required row why.mandatory_missing p ie.source_interface Fine a → Ends row g p a
+  pub ends_pdi : {a : Result (Unit {0}) Fault} → g ≡ ie.pdi → Required row why.mandatory_missing p ie.source_interface fine a → Ends row g p a
   unfolding closing pdi_end row_members cause_of there_word
-  ends_pdi e a = rw (e, a) (lacks (row_members row) Fine missing ie.source_interface p (word its.has_source row) (word its.source row) (λ n. done (row_members row)) z.source refl)
+  ends_pdi e a = rw (e, a) (lacks (row_members row) fine missing ie.source_interface p (word its.has_source row) (word its.source row) (λ n. done (row_members row)) z.source refl)
 
-  pub ends_create : {a b c d : Verdict} → g ≡ ie.create_pdr → Required row why.mandatory_missing p ie.source_interface Fine a → Required row why.mandatory_missing p ie.pdr_id a b → Required row why.mandatory_missing p ie.precedence b c → Required row why.mandatory_missing p ie.pdi c d → Ends row g p d
+  pub ends_create : {a b c d : Result (Unit {0}) Fault} → g ≡ ie.create_pdr → Required row why.mandatory_missing p ie.source_interface fine a → Required row why.mandatory_missing p ie.pdr_id a b → Required row why.mandatory_missing p ie.precedence b c → Required row why.mandatory_missing p ie.pdi c d → Ends row g p d
   unfolding closing item_from pdr_item row_members cause_of there_word
   ends_create {a} {b} {c} {d} e h q r s =
       rw (e, s)
       (lacks_pdi (row_members row) c missing ie.pdi p (word its.has_pdi row) _ _ z.pdi
       (rw r (lacks_then (row_members row) b missing ie.precedence p (word its.has_precedence row) (word its.precedence row) _ _ z.precedence
       (rw q (lacks_then (row_members row) a missing ie.pdr_id p (word its.has_pdr_id row) (word its.pdr_id row) _ _ z.pdr_id
-      (rw h (lacks_then (row_members row) Fine missing ie.source_interface p (word its.has_source row) (word its.source row) _ _ z.source refl)))))))
+      (rw h (lacks_then (row_members row) fine missing ie.source_interface p (word its.has_source row) (word its.source row) _ _ z.source refl)))))))
 
-  pub ends_endpoint : {a b : Verdict} → g ≡ ie.create_endpoint → Required row why.mandatory_missing p ie.endpoint_id Fine a → Required row why.conditional_missing p ie.fteid a b → Ends row g p b
+  pub ends_endpoint : {a b : Result (Unit {0}) Fault} → g ≡ ie.create_endpoint → Required row why.mandatory_missing p ie.endpoint_id fine a → Required row why.conditional_missing p ie.fteid a b → Ends row g p b
   unfolding closing item_from endpoint_item row_members row_local cause_of there_word
   ends_endpoint {a} {b} e h q =
       rw (e, q)
       (lacks_local (row_members row) a conditional ie.fteid p (eqb (word its.flags row) 0) (row_fteid row) _ _
-      (rw h (lacks_then (row_members row) Fine missing ie.endpoint_id p (word its.has_endpoint_id row) (word its.endpoint_id row) _ _ z.endpoint_id refl)))
+      (rw h (lacks_then (row_members row) fine missing ie.endpoint_id p (word its.has_endpoint_id row) (word its.endpoint_id row) _ _ z.endpoint_id refl)))
 
-  pub ends_pdr : {a : Verdict} → OneOf g ie.update_pdr (ie.remove_pdr ∷ []) → Required row why.mandatory_missing p ie.pdr_id Fine a → Ends row g p a
+  pub ends_pdr : {a : Result (Unit {0}) Fault} → OneOf g ie.update_pdr (ie.remove_pdr ∷ []) → Required row why.mandatory_missing p ie.pdr_id fine a → Ends row g p a
   unfolding closing item_from change_from row_members cause_of there_word
-  ends_pdr (inl e) h = rw (e, h) (lacks_then (row_members row) Fine missing ie.pdr_id p (word its.has_pdr_id row) (word its.pdr_id row) _ _ z.pdr_id refl)
-  ends_pdr (inr e) h = rw (e, h) (lacks_then (row_members row) Fine missing ie.pdr_id p (word its.has_pdr_id row) (word its.pdr_id row) _ _ z.pdr_id refl)
+  ends_pdr (inl e) h = rw (e, h) (lacks_then (row_members row) fine missing ie.pdr_id p (word its.has_pdr_id row) (word its.pdr_id row) _ _ z.pdr_id refl)
+  ends_pdr (inr e) h = rw (e, h) (lacks_then (row_members row) fine missing ie.pdr_id p (word its.has_pdr_id row) (word its.pdr_id row) _ _ z.pdr_id refl)
 
-  pub ends_other : {a : Verdict} → (g ≡ ie.create_pdr → ⊥) → (g ≡ ie.pdi → ⊥) → (g ≡ ie.create_endpoint → ⊥) → (OneOf g ie.update_pdr (ie.remove_pdr ∷ []) → ⊥) → Required row why.mandatory_missing p ie.endpoint_id Fine a → Ends row g p a
+  pub ends_other : {a : Result (Unit {0}) Fault} → (g ≡ ie.create_pdr → ⊥) → (g ≡ ie.pdi → ⊥) → (g ≡ ie.create_endpoint → ⊥) → (OneOf g ie.update_pdr (ie.remove_pdr ∷ []) → ⊥) → Required row why.mandatory_missing p ie.endpoint_id fine a → Ends row g p a
   unfolding closing item_from row_members cause_of there_word
   ends_other h i j k l =
       rw (ne_eqb g ie.create_pdr h, ne_eqb g ie.pdi i, ne_eqb g ie.create_endpoint j, ne_eqb g ie.update_pdr (λ q. k (inl q)), ne_eqb g ie.remove_pdr (λ q. k (inr q)), l)
-      (lacks_then (row_members row) Fine missing ie.endpoint_id p (word its.has_endpoint_id row) (word its.endpoint_id row) _ _ z.endpoint_id refl)
+      (lacks_then (row_members row) fine missing ie.endpoint_id p (word its.has_endpoint_id row) (word its.endpoint_id row) _ _ z.endpoint_id refl)
 
 -- ---- a turn of the loop over the elements of a group, with the element of type t at the front of the rest
 
@@ -182,42 +198,42 @@ module _ {g p t e : ℕ} {s row₀ : List ℕ} {at : ℕ} {rest row : List ℕ} 
   fits_after : at + e + length (behind rest e) < 2 ^ 64
   fits_after = let h = f.high in let i = inv.fits in let l = ap length (part_from e rest) ∙ length-drop e rest in omega arith
 
-  module _ (r : Verdict) (own : List ℕ) (read : Reads (own_read g t at v (row_members row)) own r) where
-    pub turn_refused : {c x y : ℕ} → r ≡ Refused c x y → Reads (closed_read g p s (row_members row₀)) own r
-    turn_refused {c} {x} {y} q =
-        let h : outcome r (row_members own) ≡ stopped c x y = ap (λ (z : Verdict). outcome z (row_members own)) q in
-        let o : numbered (own_read g t at v (row_members row)) ≡ stopped c x y = sym read.told ∙ h in
+  module _ (r : Result (Unit {0}) Fault) (own : List ℕ) (read : Reads (own_read g t at v (row_members row)) own r) where
+    pub turn_refused : {f : Fault} → r ≡ Err f → Reads (closed_read g p s (row_members row₀)) own (Err f)
+    turn_refused {f} q =
+        let h : outcome r (row_members own) ≡ stopped f.cause f.kind f.place = ap (λ (z : Result (Unit {0}) Fault). outcome z (row_members own)) q in
+        let o : numbered (own_read g t at v (row_members row)) ≡ stopped f.cause f.kind f.place = sym read.told ∙ h in
         let one = stops (own_read g t at v (row_members row)) inner o in
         let two = stops (and_then (own_read g t at v (row_members row)) inner) after one in
         let three = stops (and_then (and_then (own_read g t at v (row_members row)) inner) after) (closing g p) two in
-        record { told = h ∙ sym (ap (λ (z : Reading Members). numbered z) closed ∙ three); tidy = read.tidy }
+        record { told = sym (ap (λ (z : Reading Members). numbered z) closed ∙ three); tidy = read.tidy }
 
-    module _ (fine : r ≡ Fine) where
+    module _ (went : r ≡ fine) where
       own_is : own_read g t at v (row_members row) ≡ done (row_members own)
-      own_is = is_done _ _ (sym read.told ∙ ap (λ (z : Verdict). outcome z (row_members own)) fine)
+      own_is = is_done _ _ (sym read.told ∙ ap (λ (z : Result (Unit {0}) Fault). outcome z (row_members own)) went)
 
       pub turn_shut : false ≡ is_pdi g t → Going g p s row₀ (at + e) (behind rest e) own
       turn_shut h = record { tidy = read.tidy; same = ahead ∙ rw (own_is, ← h); fits = fits_after }
 
-      module _ (pdi : true ≡ is_pdi g t) (q : Verdict) (all : List ℕ) (within : Reads (closed_read 2 at v (row_members own)) all q) where
+      module _ (pdi : true ≡ is_pdi g t) (q : Result (Unit {0}) Fault) (all : List ℕ) (within : Reads (closed_read 2 at v (row_members own)) all q) where
         inner_told : numbered (pdi_read at v (row_members own)) ≡ outcome q (row_members all)
         inner_told = sym (within.told ∙ ap (λ (z : Reading Members). numbered z) (pdi_same at v (row_members own)))
 
-        pub turn_inside : {c x y : ℕ} → q ≡ Refused c x y → Reads (closed_read g p s (row_members row₀)) all q
-        turn_inside {c} {x} {y} k =
-            let h : outcome q (row_members all) ≡ stopped c x y = ap (λ (z : Verdict). outcome z (row_members all)) k in
-            let o : numbered (pdi_read at v (row_members own)) ≡ stopped c x y = inner_told ∙ h in
+        pub turn_inside : {f : Fault} → q ≡ Err f → Reads (closed_read g p s (row_members row₀)) all (Err f)
+        turn_inside {f} k =
+            let h : outcome q (row_members all) ≡ stopped f.cause f.kind f.place = ap (λ (z : Result (Unit {0}) Fault). outcome z (row_members all)) k in
+            let o : numbered (pdi_read at v (row_members own)) ≡ stopped f.cause f.kind f.place = inner_told ∙ h in
             let w : closed_read g p s (row_members row₀) ≡ and_then (and_then (pdi_read at v (row_members own)) after) (closing g p) = closed ∙ rw (own_is, ← pdi) in
             let one = stops (pdi_read at v (row_members own)) after o in
             let two = stops (and_then (pdi_read at v (row_members own)) after) (closing g p) one in
-            record { told = h ∙ sym (ap (λ (z : Reading Members). numbered z) w ∙ two); tidy = within.tidy }
+            record { told = sym (ap (λ (z : Reading Members). numbered z) w ∙ two); tidy = within.tidy }
 
-        pub turn_open : q ≡ Fine → Going g p s row₀ (at + e) (behind rest e) all
+        pub turn_open : q ≡ fine → Going g p s row₀ (at + e) (behind rest e) all
         turn_open k =
-            let o : pdi_read at v (row_members own) ≡ done (row_members all) = is_done _ _ (inner_told ∙ ap (λ (z : Verdict). outcome z (row_members all)) k) in
+            let o : pdi_read at v (row_members own) ≡ done (row_members all) = is_done _ _ (inner_told ∙ ap (λ (z : Result (Unit {0}) Fault). outcome z (row_members all)) k) in
             record { tidy = within.tidy; same = ahead ∙ rw (own_is, ← pdi, o); fits = fits_after }
 
-pub turns_done : {g p : ℕ} {s row₀ : List ℕ} {at : ℕ} {rest row : List ℕ} {r : Verdict} → Going g p s row₀ at rest row → elements at rest ≡ []
+pub turns_done : {g p : ℕ} {s row₀ : List ℕ} {at : ℕ} {rest row : List ℕ} {r : Result (Unit {0}) Fault} → Going g p s row₀ at rest row → elements at rest ≡ []
     → outcome r (row_members row) ≡ numbered (closing g p (row_members row)) → Reads (closed_read g p s (row_members row₀)) row r
 unfolding closed_read members_read
 turns_done {g} {p} {s} {row₀} {at} {rest} {row} inv e h =

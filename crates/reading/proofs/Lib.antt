@@ -1,4 +1,5 @@
 pub mod Places
+pub mod Faults
 pub mod RowLaws
 pub mod MemberLaws
 pub mod GroupLaws

@@ -27,9 +27,9 @@ use Rattle.ue_ip.specs.declared.UeIp.{UeIp}
 use Rattle.ue_ip.specs.declared.UeIp.TheVariants as ue-case
 use Rattle.element.proofs.AnswerLaws.{picked}
 use Rattle.plan.specs.Rows.{ue_from}
-use Rattle.reading.specs.declared.Verdict.{Verdict}
-use Rattle.reading.specs.declared.Verdict.TheVariants.{Fine, Refused}
-use Rattle.reading.specs.Verdicts.{stopped, got, numbered}
+use Rattle.std.specs.Prelude.{Result}
+use Rattle.reading.specs.declared.Fault.{Fault}
+use Rattle.reading.specs.Verdicts.{stopped, got, numbered, fault, fine}
 use Rattle.reading.specs.Rows.{member_types, plain_types, there_word, row_members, Tidy, Reads, plain_number, plain_read, fteid_read, ue_read, ue_kind_in, ue_address_in, own_read, is_null_far}
 use Rattle.reading.proofs.Places.{keys_in, one_of}
 use Rattle.reading.proofs.RowLaws.{Holding, by_plain, by_member, plain_put, put_plain, put_null_far, put_pdi, six_set, put_fteid, two_set, put_ue, held, unheld, from_words}
@@ -47,7 +47,7 @@ is_done (faulty f) a h = let z : ◌≡◌ {A = ℕ} 0 1 = cc in absurd (omega a
 is_done (done b) a h = cc
 
 -- a verdict that is no refusal, with the row's members
-holding : {result : Reading Members} {m : Members} {row : List ℕ} → Holding m row → result ≡ done m → Reads result row Fine
+holding : {result : Reading Members} {m : Members} {row : List ℕ} → Holding m row → result ≡ done m → Reads result row fine
 holding h e = record { told = ap got h.members ∙ sym (ap numbered e); tidy = h.tidy }
 
 -- ---- plain members
@@ -90,14 +90,14 @@ module _ (p : ℕ) (v : List ℕ) (m : Members) where
       (then_pick (ltb (length v) 1) too_short ie.endpoint_id p (number_at 0 1 v) (λ n. done (with_endpoint_id n m)))
 
 module _ (t p : ℕ) (v row : List ℕ) (k : member t plain_types ≡ true) (z : Tidy row) where
-  pub plain_short : {w : ℕ} → w ≡ number_width t → length v < w → Reads (plain_read t p v (row_members row)) row (Refused why.wrong_length t p)
+  pub plain_short : {w : ℕ} → w ≡ number_width t → length v < w → Reads (plain_read t p v (row_members row)) row (fault why.wrong_length t p)
   unfolding cause_of
   plain_short e h =
       let q : plain_read t p v (row_members row) ≡ refusal_at too_short t p = plain_is p v (row_members row) t k ∙ rw (← e, lt-ltb _ _ h) in
       record { told = sym (ap (λ (x : Reading Members). numbered x) q); tidy = z }
 
   pub plain_long : {w n at : ℕ} → w ≡ number_width t → w ≤ length v → n ≡ plain_number t v → at ≡ there_word t
-      → Reads (plain_read t p v (row_members row)) (set (set row at 1) (at + 6) n) Fine
+      → Reads (plain_read t p v (row_members row)) (set (set row at 1) (at + 6) n) fine
   plain_long e h q a =
       rw (a, q) (holding (put_plain row t (plain_number t v) k z) (plain_is p v (row_members row) t k ∙ rw (← e, le-ltb _ _ h)))
 
@@ -135,7 +135,7 @@ no_families e (f ∷ xs) t h = by_tests (wrong_flags e f) (ltb (length xs) (ftei
         let k : fteid_fields f xs ≡ given t [] [] = cc in
         no_family e f xs t p (ltb-false (length xs) (fteid_length f) q) k
 
-pub fteid_refused : (p : ℕ) (a : rules.Answer Fteid) (c : Refusal) (row : List ℕ) {r : Verdict} → Tidy row → some (refuse c) ≡ some a → r ≡ Refused (cause_of c) ie.fteid p → Reads (fteid_read p a (row_members row)) row r
+pub fteid_refused : (p : ℕ) (a : rules.Answer Fteid) (c : Refusal) (row : List ℕ) {r : Result (Unit {0}) Fault} → Tidy row → some (refuse c) ≡ some a → r ≡ fault (cause_of c) ie.fteid p → Reads (fteid_read p a (row_members row)) row r
 unfolding fteid_read
 fteid_refused p a c row z h e = let k : refuse c ≡ a = cc in record { told = rw (← k, e); tidy = z }
 
@@ -144,12 +144,12 @@ unfolding bit be
 no_flags x h = rw h
 
 pub fteid_value : (x : FTeid) (p : ℕ) (e : Bool) (v row : List ℕ) → Tidy row → map_option value (fteid_of x) ≡ some (read_fteid e v)
-    → Reads (fteid_read p (read_fteid e v) (row_members row)) (six_set row x.flags x.teid x.ipv4 x.ipv6_high x.ipv6_low x.choose_id row) Fine
+    → Reads (fteid_read p (read_fteid e v) (row_members row)) (six_set row x.flags x.teid x.ipv4 x.ipv6_high x.ipv6_low x.choose_id row) fine
 unfolding fteid_read
 fteid_value x p e v row z = by_option (fteid_of x) refl
   where
     by_option : (o : Option Fteid) → fteid_of x ≡ o → map_option value o ≡ some (read_fteid e v)
-        → Reads (fteid_read p (read_fteid e v) (row_members row)) (six_set row x.flags x.teid x.ipv4 x.ipv6_high x.ipv6_low x.choose_id row) Fine
+        → Reads (fteid_read p (read_fteid e v) (row_members row)) (six_set row x.flags x.teid x.ipv4 x.ipv6_high x.ipv6_low x.choose_id row) fine
     by_option none q h = let y : ◌≡◌ {A = ℕ} 0 1 = cc in absurd (omega arith)
     by_option (some y) q h =
         let k : read_fteid e v ≡ value y = cc in
@@ -166,12 +166,12 @@ ue_words (ue-case.Given a) = refl
 ue_words ue-case.Choose = refl
 ue_words ue-case.Other = refl
 
-pub ue_refused : (p : ℕ) (v row : List ℕ) (c : Refusal) {n : ℕ} → Tidy row → refuse c ≡ read_ue_ip v → n ≡ cause_of c → Reads (ue_read p (read_ue_ip v) (row_members row)) row (Refused n ie.ue_ip_address p)
+pub ue_refused : (p : ℕ) (v row : List ℕ) (c : Refusal) {n : ℕ} → Tidy row → refuse c ≡ read_ue_ip v → n ≡ cause_of c → Reads (ue_read p (read_ue_ip v) (row_members row)) row (fault n ie.ue_ip_address p)
 unfolding ue_read
 ue_refused p v row c z h e = record { told = rw (← h, e); tidy = z }
 
 pub ue_value : (x : UeIp) (p : ℕ) (v row : List ℕ) {k a : ℕ} → Tidy row → value (ue_of x) ≡ read_ue_ip v → k ≡ ue_kind_in x → a ≡ ue_address_in x
-    → Reads (ue_read p (read_ue_ip v) (row_members row)) (two_set row k a row) Fine
+    → Reads (ue_read p (read_ue_ip v) (row_members row)) (two_set row k a row) fine
 unfolding ue_read
 ue_value x p v row z h e f = rw (e, f) (holding (put_ue row (ue_kind_in x) (ue_address_in x) (ue_of x) (ue_words x) z) (rw (← h)))
 
@@ -209,15 +209,15 @@ is_plain =
     (λ a b c. refl) (λ a b c. refl) (λ a b c. refl) (λ a b c. absurd (c refl)) (λ a b c. refl) (λ a b c. absurd (a refl)) (λ a b c. absurd (b refl)) (λ a b c. refl)
 
 module _ (g t p : ℕ) (v row : List ℕ) where
-  pub value_fteid : {row' : List ℕ} {r : Verdict} → t ≡ ie.fteid → Reads (fteid_read p (read_fteid (eqb g ie.create_endpoint) v) (row_members row)) row' r → Reads (value_read unopened g t p v (row_members row)) row' r
+  pub value_fteid : {row' : List ℕ} {r : Result (Unit {0}) Fault} → t ≡ ie.fteid → Reads (fteid_read p (read_fteid (eqb g ie.create_endpoint) v) (row_members row)) row' r → Reads (value_read unopened g t p v (row_members row)) row' r
   unfolding value_read fteid_read
   value_fteid h e = rw h e
 
-  pub value_ue : {row' : List ℕ} {r : Verdict} → t ≡ ie.ue_ip_address → Reads (ue_read p (read_ue_ip v) (row_members row)) row' r → Reads (value_read unopened g t p v (row_members row)) row' r
+  pub value_ue : {row' : List ℕ} {r : Result (Unit {0}) Fault} → t ≡ ie.ue_ip_address → Reads (ue_read p (read_ue_ip v) (row_members row)) row' r → Reads (value_read unopened g t p v (row_members row)) row' r
   unfolding value_read ue_read
   value_ue h e = rw h e
 
-  pub value_pdi : t ≡ ie.pdi → Tidy row → Reads (value_read unopened g t p v (row_members row)) (set row 6 1) Fine
+  pub value_pdi : t ≡ ie.pdi → Tidy row → Reads (value_read unopened g t p v (row_members row)) (set row 6 1) fine
   unfolding value_read pdi_in
   value_pdi h z = rw h (holding (put_pdi row z) (pick_same (eqb g ie.create_pdr) (done (with_pdi (row_members row)))))
     where
@@ -225,7 +225,7 @@ module _ (g t p : ℕ) (v row : List ℕ) where
       pick_same true a = refl
       pick_same false a = refl
 
-  pub value_null : member t member_types ≡ true → true ≡ is_null_far g t v → Tidy row → Reads (value_read unopened g t p v (row_members row)) (set row 3 2) Fine
+  pub value_null : member t member_types ≡ true → true ≡ is_null_far g t v → Tidy row → Reads (value_read unopened g t p v (row_members row)) (set row 3 2) fine
   unfolding value_read far_read is_null_far
   value_null k h z = holding (put_null_far row z) (null_is t k h)
     where
@@ -237,7 +237,7 @@ module _ (g t p : ℕ) (v row : List ℕ) where
           never : {X : Type 0} → true ≡ (eqb g ie.update_pdr && false) → X
           never q = let y : true ≡ false = q ∙ and-false (eqb g ie.update_pdr) in let n : ◌≡◌ {A = ℕ} 0 1 = cc in absurd (omega arith)
 
-  pub value_plain : {row' : List ℕ} {r : Verdict} → member t plain_types ≡ true → false ≡ is_null_far g t v → Reads (plain_read t p v (row_members row)) row' r → Reads (value_read unopened g t p v (row_members row)) row' r
+  pub value_plain : {row' : List ℕ} {r : Result (Unit {0}) Fault} → member t plain_types ≡ true → false ≡ is_null_far g t v → Reads (plain_read t p v (row_members row)) row' r → Reads (value_read unopened g t p v (row_members row)) row' r
   value_plain k h e = record { told = e.told ∙ ap numbered (plain_alike g p v (row_members row) t k h); tidy = e.tidy }
 
 -- every member with a place has words
@@ -256,15 +256,15 @@ has_words g t h = go (eqb g ie.create_pdr || eqb g ie.update_pdr) (eqb g ie.pdi)
     go false false false false q = in_list ie.endpoint_id [] tt q
 
 module _ (g t p : ℕ) (v row : List ℕ) (z : Tidy row) where
-  pub own_skipped : false ≡ member t (places_of g) → Reads (own_read g t p v (row_members row)) row Fine
+  pub own_skipped : false ≡ member t (places_of g) → Reads (own_read g t p v (row_members row)) row fine
   unfolding own_read member_read
   own_skipped h = record { told = sym (rw (← h)); tidy = z }
 
-  pub own_repeat : {at : ℕ} → true ≡ member t (places_of g) → at ≡ there_word t → (get_or row at 0 ≡ 0 → ⊥) → Reads (own_read g t p v (row_members row)) row (Refused why.incorrect t p)
+  pub own_repeat : {at : ℕ} → true ≡ member t (places_of g) → at ≡ there_word t → (get_or row at 0 ≡ 0 → ⊥) → Reads (own_read g t p v (row_members row)) row (fault why.incorrect t p)
   unfolding own_read member_read cause_of
   own_repeat h a k = record { told = sym (rw (← h, held row z t (has_words g t h) (λ q. k (ap (λ (i : ℕ). get_or row i 0) a ∙ q)))); tidy = z }
 
-  pub own_value : {at : ℕ} {row' : List ℕ} {r : Verdict} → true ≡ member t (places_of g) → at ≡ there_word t → get_or row at 0 ≡ 0
+  pub own_value : {at : ℕ} {row' : List ℕ} {r : Result (Unit {0}) Fault} → true ≡ member t (places_of g) → at ≡ there_word t → get_or row at 0 ≡ 0
       → Reads (value_read unopened g t p v (row_members row)) row' r → Reads (own_read g t p v (row_members row)) row' r
   unfolding own_read member_read
   own_value h a k e = record { told = e.told ∙ sym (rw (← h, unheld row z t (has_words g t h) (ap (λ (i : ℕ). get_or row i 0) (sym a) ∙ k))); tidy = e.tidy }

@@ -5,17 +5,14 @@ use Rattle.octets.specs.Choice.{pick, is_nil}
 use Rattle.octets.specs.Octets.{number_at}
 use Rattle.rules.specs.Types as ie
 use Rattle.rules.specs.Message.{inside, elements, number_width}
-use Rattle.rules.specs.Elements.{Answer, Fteid, UeIp, cause_of}
+use Rattle.rules.specs.Elements.{Answer, Fteid, UeIp}
 use Rattle.rules.specs.Reading.{Reading, done, and_then, named, Members, with_local, with_address, value_read, member_read, members_read, unopened, pdi_read, pdi_end, item_from}
 use Rattle.plan.specs.Rows.{row_width, word, present, row_far, row_local, row_ue}
 use Rattle.plan.specs.Words as its
-use Rattle.element.specs.Answers.{refusal_of}
-use Rattle.fteid.specs.declared.Answer as code
-use Rattle.fteid.specs.declared.Answer.TheVariants as code-case
 use Rattle.ue_ip.specs.declared.UeIp as code-ue
 use Rattle.ue_ip.specs.declared.UeIp.TheVariants as ue-case
-use Rattle.reading.specs.declared.Verdict.{Verdict}
-use Rattle.reading.specs.declared.Verdict.TheVariants.{Fine, Refused}
+use Rattle.std.specs.Prelude.{Result}
+use Rattle.reading.specs.declared.Fault.{Fault}
 use Rattle.reading.specs.Verdicts.{numbered, outcome}
 
 -- the types that have words in a row
@@ -63,7 +60,7 @@ pub record Tidy (row : List ℕ) : Type 0 where
   pub pdi : word its.has_pdi row ≤ 1
 
 -- a reading of members that a row took part in
-pub record Reads (result : Reading Members) (row : List ℕ) (r : Verdict) : Type 0 where
+pub record Reads (result : Reading Members) (row : List ℕ) (r : Result (Unit {0}) Fault) : Type 0 where
   pub told : outcome r (row_members row) ≡ numbered result
   pub tidy : Tidy row
 
@@ -113,8 +110,3 @@ closing g p m = pick (eqb g ie.pdi) (pdi_end p m) (and_then (item_from g p m) (�
 -- the members of a group at a place with the value v, read into those that were there before
 unfoldable pub closed_read : ℕ → ℕ → List ℕ → Members → Reading Members
 closed_read g p v m = and_then (members_read pdi_read g (elements (inside p) v) m) (closing g p)
-
--- what a reader's refusal tells
-abbrev pub fteid_refusal : ℕ → code.Answer → Verdict
-fteid_refusal p (code-case.Value x) = Fine
-fteid_refusal p (code-case.Refused r) = Refused (cause_of (refusal_of r)) ie.fteid p

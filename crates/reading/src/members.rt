@@ -7,14 +7,11 @@ ghost use Rattle.rules.specs.Elements.{read_fteid, read_ue_ip};
 ghost use Rattle.rules.specs.Message.{number_width};
 ghost use Rattle.rules.specs.Reading.{unopened, value_read};
 ghost use Rattle.plan.specs.Rows.{word, row_width};
-ghost use Rattle.reading.specs.Verdicts.{outcome, numbered};
-ghost use Rattle.reading.specs.Rows.{member_types, plain_types, there_word, row_members, Tidy, Reads, plain_number, plain_read, fteid_read, ue_read, ue_kind_in, ue_address_in, own_read, is_null_far, closing, closed_read, fteid_refusal};
-ghost use Rattle.reading.specs.declared.Verdict.TheVariants.{Refused};
+ghost use Rattle.reading.specs.Verdicts.{outcome, numbered, fault, fine};
+ghost use Rattle.reading.specs.Rows.{member_types, plain_types, there_word, row_members, Tidy, Reads, plain_number, plain_read, fteid_read, ue_read, ue_kind_in, ue_address_in, own_read, is_null_far, closing, closed_read};
 
-use crate::Verdict;
+use crate::{Fault, answer_at};
 use format::{causes, types, words};
-use frame::First;
-use fteid::Answer;
 use ue_ip::UeIp;
 
 // The word of a row that says whether a member of type kind is there.
@@ -47,47 +44,38 @@ fn number_of(v: &[u8], kind: u64, width: usize) -> u64
 }
 
 // A plain member at a place: its presence word, and its number six words on.
-fn read_plain(v: &[u8], kind: u64, place: usize, row: &mut [u64]) -> Verdict
+fn read_plain(v: &[u8], kind: u64, place: usize, row: &mut [u64]) -> Result<(), Fault>
     requires { Tidy row.old × (member kind plain_types ≡ true) }
     ensures { Reads (plain_read kind place v.now (row_members row.old)) row.new result }
 {
     let width = crate::group::width_of(kind);
     if v.len() < width {
-        return Verdict::Refused(causes::WRONG_LENGTH, kind, place);
+        return Err(Fault {
+            cause: causes::WRONG_LENGTH,
+            kind,
+            place,
+        });
     }
     let n = number_of(v, kind, width);
     let at = column_of(kind);
     row[at] = 1;
     row[at + 6] = n;
-    Verdict::Fine
-}
-
-// The refusal in an answer on an F-TEID at a place, if it is one.
-fn refused(answer: Answer, place: usize) -> Verdict
-    ensures { result ≡ fteid_refusal place answer }
-{
-    let Err(refusal) = answer else {
-        return Verdict::Fine;
-    };
-    Verdict::Refused(element::cause_of(refusal), types::FTEID, place)
+    Ok(())
 }
 
 // An F-TEID at a place: in a traffic endpoint (endpoint) or in a PDI.
-fn read_fteid(v: &[u8], endpoint: bool, place: usize, row: &mut [u64]) -> Verdict
+fn read_fteid(v: &[u8], endpoint: bool, place: usize, row: &mut [u64]) -> Result<(), Fault>
     requires { Tidy row.old }
     ensures { Reads (fteid_read place (read_fteid endpoint v.now) (row_members row.old)) row.new result }
 {
-    let answer = fteid::read(v, endpoint);
-    let Ok(x) = answer else {
-        return refused(answer, place);
-    };
+    let x = answer_at(fteid::read(v, endpoint), types::FTEID, place)?;
     row[words::FLAGS] = x.flags;
     row[words::TEID] = x.teid;
     row[words::IPV4] = x.ipv4;
     row[words::IPV6_HIGH] = x.ipv6_high;
     row[words::IPV6_LOW] = x.ipv6_low;
     row[words::CHOOSE_ID] = x.choose_id;
-    Verdict::Fine
+    Ok(())
 }
 
 // The kind of a UE IP Address, as its row has it: 1 an address, 2 a CHOOSE, 3 one that is not supported.
@@ -113,23 +101,14 @@ fn address_of(x: UeIp) -> u64
 }
 
 // A UE IP Address at a place.
-fn read_ue(v: &[u8], place: usize, row: &mut [u64]) -> Verdict
+fn read_ue(v: &[u8], place: usize, row: &mut [u64]) -> Result<(), Fault>
     requires { Tidy row.old }
     ensures { Reads (ue_read place (read_ue_ip v.now) (row_members row.old)) row.new result }
 {
-    let answer = ue_ip::read(v);
-    match answer {
-        Err(refusal) => Verdict::Refused(
-            element::cause_of(refusal),
-            types::UE_IP_ADDRESS,
-            place,
-        ),
-        Ok(x) => {
-            row[words::UE_KIND] = kind_of(x);
-            row[words::UE_ADDRESS] = address_of(x);
-            Verdict::Fine
-        }
-    }
+    let x = answer_at(ue_ip::read(v), types::UE_IP_ADDRESS, place)?;
+    row[words::UE_KIND] = kind_of(x);
+    row[words::UE_ADDRESS] = address_of(x);
+    Ok(())
 }
 
 // Whether this is a FAR ID of null length in an Update PDR.
@@ -147,7 +126,7 @@ fn is_null_far(v: &[u8], group: u64, kind: u64) -> bool
 
 // The value of a member of type kind at a place, in the group. The members of a PDI are read apart in a Create PDR, and not at all in an Update
 // PDR, where a FAR ID of null length takes the FAR ID away.
-fn read_value(v: &[u8], group: u64, kind: u64, place: usize, row: &mut [u64]) -> Verdict
+fn read_value(v: &[u8], group: u64, kind: u64, place: usize, row: &mut [u64]) -> Result<(), Fault>
     requires { Tidy row.old × (member kind member_types ≡ true) }
     ensures { Reads (value_read unopened group kind place v.now (row_members row.old)) row.new result }
 {
@@ -159,133 +138,95 @@ fn read_value(v: &[u8], group: u64, kind: u64, place: usize, row: &mut [u64]) ->
     }
     if kind == types::PDI {
         row[words::HAS_PDI] = 1;
-        return Verdict::Fine;
+        return Ok(());
     }
     if is_null_far(v, group, kind) {
         row[words::HAS_FAR_ID] = 2;
-        return Verdict::Fine;
+        return Ok(());
     }
     read_plain(v, kind, place, row)
 }
 
 // An element of type kind and value v at a place in the group, by itself: skipped where it has no place, a repeat where its word is set.
-fn read_own(v: &[u8], group: u64, kind: u64, place: usize, row: &mut [u64]) -> Verdict
+fn read_own(v: &[u8], group: u64, kind: u64, place: usize, row: &mut [u64]) -> Result<(), Fault>
     requires { Tidy row.old }
     ensures { Reads (own_read group kind place v.now (row_members row.old)) row.new result }
 {
     if !crate::group::is_member(group, kind) {
-        return Verdict::Fine;
+        return Ok(());
     }
     let at = column_of(kind);
     if row[at] != 0 {
-        return Verdict::Refused(causes::INCORRECT, kind, place);
+        return Err(Fault {
+            cause: causes::INCORRECT,
+            kind,
+            place,
+        });
     }
     read_value(v, group, kind, place, row)
 }
 
-// Refuses the row of a group at a place without a member of type kind, and else goes by next.
-fn require(row: &[u64], cause: u64, kind: u64, place: usize, next: Verdict) -> Verdict
+// Refuses the row of a group at a place without a member of type kind.
+fn require(row: &[u64], cause: u64, kind: u64, place: usize) -> Result<(), Fault>
     requires { length row.now ≡ row_width }
-    ensures { result ≡ pick (eqb (word (there_word kind) row.now) 0) (Refused cause kind place) next }
+    ensures { result ≡ pick (eqb (word (there_word kind) row.now) 0) (fault cause kind place) fine }
 {
-    let at = column_of(kind);
-    if row[at] == 0 {
-        return Verdict::Refused(cause, kind, place);
+    if row[column_of(kind)] == 0 {
+        return Err(Fault { cause, kind, place });
     }
-    next
+    Ok(())
 }
 
 // The first member that the row of a group at a place lacks, the lowest type first.
-fn lacking(row: &[u64], group: u64, place: usize) -> Verdict
+fn lacking(row: &[u64], group: u64, place: usize) -> Result<(), Fault>
     requires { Tidy row.now }
     ensures { outcome result (row_members row.now) ≡ numbered (closing group place (row_members row.now)) }
 {
     match group {
-        types::CREATE_PDR => require(
-            row,
-            causes::MANDATORY_MISSING,
-            types::PDI,
-            place,
-            require(
+        types::CREATE_PDR => require(row, causes::MANDATORY_MISSING, types::PDI, place)
+            .and(require(row, causes::MANDATORY_MISSING, types::PRECEDENCE, place))
+            .and(require(row, causes::MANDATORY_MISSING, types::PDR_ID, place))
+            .and(require(
                 row,
                 causes::MANDATORY_MISSING,
-                types::PRECEDENCE,
+                types::SOURCE_INTERFACE,
                 place,
-                require(
-                    row,
-                    causes::MANDATORY_MISSING,
-                    types::PDR_ID,
-                    place,
-                    require(
-                        row,
-                        causes::MANDATORY_MISSING,
-                        types::SOURCE_INTERFACE,
-                        place,
-                        Verdict::Fine,
-                    ),
-                ),
-            ),
-        ),
+            )),
         types::PDI => require(
             row,
             causes::MANDATORY_MISSING,
             types::SOURCE_INTERFACE,
             place,
-            Verdict::Fine,
         ),
         types::CREATE_ENDPOINT => require(
             row,
             causes::CONDITIONAL_MISSING,
             types::FTEID,
             place,
-            require(
-                row,
-                causes::MANDATORY_MISSING,
-                types::ENDPOINT_ID,
-                place,
-                Verdict::Fine,
-            ),
-        ),
-        types::UPDATE_PDR | types::REMOVE_PDR => require(
-            row,
-            causes::MANDATORY_MISSING,
-            types::PDR_ID,
-            place,
-            Verdict::Fine,
-        ),
-        _ => require(
-            row,
-            causes::MANDATORY_MISSING,
-            types::ENDPOINT_ID,
-            place,
-            Verdict::Fine,
-        ),
+        ).and(require(row, causes::MANDATORY_MISSING, types::ENDPOINT_ID, place)),
+        types::UPDATE_PDR | types::REMOVE_PDR => {
+            require(row, causes::MANDATORY_MISSING, types::PDR_ID, place)
+        }
+        _ => require(row, causes::MANDATORY_MISSING, types::ENDPOINT_ID, place),
     }
 }
 
 // Reads the group s at a place into its row, up to the first fault. The members stand from the place plus 4 on.
-pub fn read_group(s: &[u8], group: u64, place: usize, row: &mut [u64]) -> Verdict
+pub fn read_group(s: &[u8], group: u64, place: usize, row: &mut [u64]) -> Result<(), Fault>
     requires { Tidy row.old × (place + 4 + length s.now < 2 ^ 64) }
     ensures { Reads (closed_read group place s.now (row_members row.old)) row.new result }
 {
     let mut rest = s;
     let mut at = place + 4;
-    loop {
-        let First::Element(kind, end) = frame::first_of(rest) else {
-            return lacking(row, group, place);
-        };
-        let v = &rest[4..end];
-        let own = read_own(v, group, kind, at, row);
-        let Verdict::Fine = own else {
-            return own;
-        };
+    while let Some(element) = frame::first_of(rest) {
+        let kind = element.kind;
+        let v = &rest[4..element.end];
+        read_own(v, group, kind, at, row)?;
         if crate::group::is_pdi(group, kind) {
-            let inner = read_group(v, types::PDI, at, row);
-            let Verdict::Fine = inner else {
-                return inner;
-            };
+            read_group(v, types::PDI, at, row)?;
         }
-        rest = &rest[end..];
-        at += end;
+        rest = &rest[element.end..];
+        at += element.end;
     }
+    lacking(row, group, place)
 }

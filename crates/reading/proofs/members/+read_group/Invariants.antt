@@ -9,8 +9,8 @@ use Rattle.reading.proofs.members.+read_group.Given as goal
 abbrev pub decreases-read_group : goal.decreases-read_group
 decreases-read_group l = flag (eqb l.group 1)
 
-abbrev pub invariant-loop-kind : goal.invariant-loop-kind
-invariant-loop-kind l = Going l.group l.place l.s l.initial.row l.at l.rest l.row
+abbrev pub invariant-loop-element : goal.invariant-loop-element
+invariant-loop-element l = Going l.group l.place l.s l.initial.row l.at l.rest l.row
 
-abbrev pub decreases-loop-kind : goal.decreases-loop-kind
-decreases-loop-kind l = length l.rest
+abbrev pub decreases-loop-element : goal.decreases-loop-element
+decreases-loop-element l = length l.rest

@@ -1,16 +1,18 @@
 -- `read_fteid` meets its contract. Assumes nothing.
-use mathlib.Core.Path.{sym, ap, ◌∙◌}
+use mathlib.Core.Path.{refl, sym, ap, ◌∙◌}
 use native.Mathlib.Omega.{arith}
 use lib.ListN.{length-set}
+use Rattle.std.proofs.lemmas.Result.{err_from_is_err_and}
 use Rattle.fteid.specs.Meaning.{fteid_answer}
-use Rattle.reading.specs.Rows.{fteid_refusal}
+use Rattle.reading.proofs.Faults.{refused_at, value_at}
 use Rattle.reading.proofs.MemberLaws.{fteid_refused, fteid_value}
 use Rattle.reading.proofs.members.read_fteid.Goals as goal
 
-pub returns-in_default : goal.returns-in_default
-returns-in_default c =
-    let p = c.requires in
-    fteid_refused _ _ _ _ p (ap fteid_answer (sym c.in_default.is) ∙ c.read-answer.ensures) (c.refused.ensures ∙ ap (fteid_refusal _) c.in_default.is)
+pub returns-in_err-x : goal.returns-in_err-x
+returns-in_err-x c =
+    let p = err_from_is_err_and c.from_residual.result c.from_residual.ensures.1 in
+    let r = refused_at _ _ _ c.answer_at.ensures c.in_err-x.was in
+    rw (p.1, p.2, r.fault) (fteid_refused _ _ _ _ c.requires (ap fteid_answer (sym r.answer) ∙ c.read.ensures) refl)
 
 pub bounds-row-16 : goal.bounds-row-16
 bounds-row-16 c = simp length-set (omega arith)
@@ -22,4 +24,4 @@ pub shape_of-row : goal.shape_of-row
 shape_of-row c = simp length-set
 
 pub returns : goal.returns
-returns c = fteid_value _ _ _ _ _ c.requires (ap fteid_answer (sym c.in-Value.is) ∙ c.read-answer.ensures)
+returns c = fteid_value _ _ _ _ _ c.requires (ap fteid_answer (sym (value_at _ _ _ c.answer_at.ensures c.in_ok-x.was)) ∙ c.read.ensures)
