@@ -20,17 +20,17 @@ use Rattle.rules.specs.Types as ie
 use Rattle.rules.specs.Causes as why
 use Rattle.plan.specs.Rows.{row_width}
 use Rattle.laws.proofs.MessageLaws.{counts_alike}
-use Rattle.reading.specs.Verdicts.{numbered}
+use Rattle.reading.specs.Verdicts.{numbered, fault}
 use Rattle.request.specs.Items.{is_update, has_row, met, Means, Follows, with_row}
 use Rattle.request.specs.declared.row.Csid.{Csid}
 use Rattle.request.specs.declared.items.Draft.{Draft}
-use Rattle.request.specs.declared.items.Step.{Step}
-use Rattle.request.specs.declared.items.Step.TheVariants.{Fault, Next}
 use Rattle.request.specs.Csids.{csid_count_fits, bare_csid, csid_words, csid_taken}
 use Rattle.fqcsid.specs.Meaning.{fqcsid_of}
 use Rattle.fqcsid.specs.declared.FqCsid.{FqCsid}
 use Rattle.request.proofs.CsidLaws.{meant_node, meant_small, meant_count, csid_row_lem, null_row}
 use Rattle.request.proofs.DraftLaws.{step_fault, went, row_added, node_added}
+use Rattle.std.specs.Prelude.{Result, Ok}
+use Rattle.reading.specs.declared.Fault.{Fault}
 
 -- ---- FQ-CSIDs
 
@@ -39,13 +39,13 @@ module _ (kind : ℕ) (alone : Bool) (p : ℕ) (v nodes words : List ℕ) (c : D
   clearing = is_nil v && eqb kind modification && alone
 
   pub csid_clears : true ≡ clearing → row_width * c.rows + row_width ≤ length words → {x : Csid} {b : Draft} {words' : List ℕ} → x ≡ bare_csid 3 0 → (b ≡ with_row false c) × (words' ≡ put (row_width * c.rows) (csid_words x) words)
-      → Follows (csid_read kind alone p v) c nodes words (Next b) nodes words'
+      → Follows (csid_read kind alone p v) c nodes words (Ok b) nodes words'
   unfolding csid_read
   csid_clears h room e to =
       rw (to.0, to.1, e) (record { follows = λ d m. went (with_item clears_csids d) (rw (← h)) (row_added m clears_csids (csid_words (bare_csid 3 0)) false null_row (unfold has_row is_update in refl) (unfold pdr_in in refl) refl room) })
 
   module _ (other : false ≡ clearing) where
-    pub csid_refused_lem : (q : Refusal) {s : Step} → some (refuse q) ≡ some (read_fqcsid v) → s ≡ Fault (cause_of q) 65 p → Follows (csid_read kind alone p v) c nodes words s nodes words
+    pub csid_refused_lem : (q : Refusal) {s : Result Draft Fault} → some (refuse q) ≡ some (read_fqcsid v) → s ≡ fault (cause_of q) 65 p → Follows (csid_read kind alone p v) c nodes words s nodes words
     unfolding csid_read
     csid_refused_lem q h e = let k : refuse q ≡ read_fqcsid v = cc in rw e (record { follows = λ d m. step_fault (rw (← other, ← k)) })
 
@@ -72,7 +72,7 @@ module _ (kind : ℕ) (alone : Bool) (p : ℕ) (v nodes words : List ℕ) (c : D
           rw (← other, h)
           (ap₂ (λ (a b : Bool). pick (a && not b) (done (with_csid y d)) (refusal_at incorrect ie.fqcsid p)) (meant_count x y q kind) (ap (λ (n : ℕ). member n d.nodes) (meant_node x y q) ∙ sym (m.seen x.node_type)))
 
-      pub csid_count_lem : false ≡ csid_count_fits kind x.count → Follows (csid_read kind alone p v) c nodes words (Fault why.incorrect ie.fqcsid p) nodes words
+      pub csid_count_lem : false ≡ csid_count_fits kind x.count → Follows (csid_read kind alone p v) c nodes words (fault why.incorrect ie.fqcsid p) nodes words
       unfolding cause_of
       csid_count_lem h =
           with_value _ (λ y q e. record {
@@ -81,7 +81,7 @@ module _ (kind : ℕ) (alone : Bool) (p : ℕ) (v nodes words : List ℕ) (c : D
                 step_fault (ap (λ (z : Reading rules.Draft). numbered z) w);
           })
 
-      pub csid_repeat : true ≡ csid_count_fits kind x.count → (get_or nodes x.node_type 0 ≡ 0 → ⊥) → Follows (csid_read kind alone p v) c nodes words (Fault why.incorrect ie.fqcsid p) nodes words
+      pub csid_repeat : true ≡ csid_count_fits kind x.count → (get_or nodes x.node_type 0 ≡ 0 → ⊥) → Follows (csid_read kind alone p v) c nodes words (fault why.incorrect ie.fqcsid p) nodes words
       unfolding cause_of
       csid_repeat h n =
           with_value _ (λ y q e. record {
@@ -98,7 +98,7 @@ module _ (kind : ℕ) (alone : Bool) (p : ℕ) (v nodes words : List ℕ) (c : D
         low = let l = node_small in omega arith
 
         pub csid_taken_lem : row_width * c.rows + row_width ≤ length words → {z : Csid} {b : Draft} {words' : List ℕ} → z ≡ csid_taken x → (b ≡ with_row false c) × (words' ≡ put (row_width * c.rows) (csid_words z) words)
-            → Follows (csid_read kind alone p v) c nodes words (Next b) (set nodes x.node_type 1) words'
+            → Follows (csid_read kind alone p v) c nodes words (Ok b) (set nodes x.node_type 1) words'
         csid_taken_lem room i to =
             rw (to.0, to.1, i)
             (with_value _ (λ y q e. record {

@@ -19,33 +19,37 @@ use Rattle.rules.specs.Request as rules
 use Rattle.rules.specs.Reading.{Reading, done}
 use Rattle.rules.specs.Request.{Item, updates_endpoint, NewPdr, with_item, with_node, pdr_in, creates_any}
 use Rattle.plan.specs.Rows.{row_width}
-use Rattle.reading.specs.Verdicts.{Outcome, stopped, numbered}
+use Rattle.reading.specs.Verdicts.{Outcome, stopped, numbered, fault}
 use Rattle.request.specs.Items.{row_item, is_update, has_row, met, Means, DraftRead, Steps, with_note, with_row}
 use Rattle.request.specs.declared.items.Draft.{Draft}
-use Rattle.request.specs.declared.items.Step.TheVariants.{Fault, Next}
+use Rattle.std.specs.Prelude.{Result, Ok, Err}
+use Rattle.reading.specs.declared.Fault.{Fault}
 
 -- ---- steps
 
-pub step_fault : {x : Reading rules.Draft} {c t p : ℕ} {nodes words : List ℕ} → numbered x ≡ stopped c t p → Steps x (Fault c t p) nodes words
-step_fault {x} {c} {t} {p} e = record { fault = λ c' t' p' q. e ∙ same q; next = λ d q. other q }
-  where
-    same : {c' t' p' : ℕ} → Fault c t p ≡ Fault c' t' p' → ◌≡◌ {A = Outcome rules.Draft} (stopped c t p) (stopped c' t' p')
-    same q = cc
+pub same_Err : {A : Type 0} (f g : Fault) → ◌≡◌ {A = Result A Fault} (Err f) (Err g) → f ≡ g
+same_Err f g e = cc
 
-    other : {d : Draft} {X : Type 0} → Fault c t p ≡ Next d → X
+pub step_fault : {x : Reading rules.Draft} {c t p : ℕ} {nodes words : List ℕ} → numbered x ≡ stopped c t p → Steps x (fault c t p) nodes words
+step_fault {x} {c} {t} {p} e = record { fault = λ f q. e ∙ same q; next = λ d q. other q }
+  where
+    same : {f : Fault} → ◌≡◌ {A = Result Draft Fault} (fault c t p) (Err f) → ◌≡◌ {A = Outcome rules.Draft} (stopped c t p) (stopped f.cause f.kind f.place)
+    same q = ap (λ (x : Fault). stopped x.cause x.kind x.place) (same_Err _ _ q)
+
+    other : {d : Draft} {X : Type 0} → ◌≡◌ {A = Result Draft Fault} (fault c t p) (Ok d) → X
     other q = let z : ◌≡◌ {A = ℕ} 0 1 = cc in absurd (omega arith)
 
-pub step_next : {x : Reading rules.Draft} {c : Draft} {nodes words : List ℕ} → DraftRead x c nodes words → Steps x (Next c) nodes words
-step_next {x} {c} {nodes} {words} h = record { fault = λ n t p q. other q; next = λ k q. subst (λ (j : Draft). DraftRead x j nodes words) (same q) h }
+pub step_next : {x : Reading rules.Draft} {c : Draft} {nodes words : List ℕ} → DraftRead x c nodes words → Steps x (Ok c) nodes words
+step_next {x} {c} {nodes} {words} h = record { fault = λ f q. other q; next = λ k q. subst (λ (j : Draft). DraftRead x j nodes words) (same q) h }
   where
-    same : {k : Draft} → Next c ≡ Next k → c ≡ k
+    same : {k : Draft} → ◌≡◌ {A = Result Draft Fault} (Ok c) (Ok k) → c ≡ k
     same q = cc
 
-    other : {n t p : ℕ} {X : Type 0} → Next c ≡ Fault n t p → X
+    other : {f : Fault} {X : Type 0} → ◌≡◌ {A = Result Draft Fault} (Ok c) (Err f) → X
     other q = let z : ◌≡◌ {A = ℕ} 0 1 = cc in absurd (omega arith)
 
 -- a step that went well
-pub went : {x : Reading rules.Draft} {c : Draft} {nodes words : List ℕ} (d : rules.Draft) → x ≡ done d → Means d c nodes words → Steps x (Next c) nodes words
+pub went : {x : Reading rules.Draft} {c : Draft} {nodes words : List ℕ} (d : rules.Draft) → x ≡ done d → Means d c nodes words → Steps x (Ok c) nodes words
 went d e m = step_next (record { draft = d; is = e; means = m })
 
 -- ---- lists with one more

@@ -18,14 +18,14 @@ use Rattle.frame.proofs.Among.{OneOf}
 use Rattle.reading.proofs.Places.{one_of}
 use Rattle.request.specs.Items.{Steps, Follows, Passes, Puts, with_note, group_types, group_at, element_at}
 use Rattle.request.specs.declared.items.Draft.{Draft}
-use Rattle.request.specs.declared.items.Step.{Step}
-use Rattle.request.specs.declared.items.Step.TheVariants.{Next}
 use Rattle.request.proofs.DraftLaws.{went, note_added}
+use Rattle.std.specs.Prelude.{Result, Ok}
+use Rattle.reading.specs.declared.Fault.{Fault}
 
 -- ---- an element by its type
 
 module _ (kind : ℕ) (alone : Bool) (t p : ℕ) (v nodes words : List ℕ) (c : Draft) where
-  pub element_skipped : false ≡ member t (acted_on kind) → Follows (element_at kind alone t p v) c nodes words (Next c) nodes words
+  pub element_skipped : false ≡ member t (acted_on kind) → Follows (element_at kind alone t p v) c nodes words (Ok c) nodes words
   unfolding element_read
   element_skipped h = record { follows = λ d m. went d (rw (← h)) m }
 
@@ -34,22 +34,22 @@ module _ (kind : ℕ) (alone : Bool) (t p : ℕ) (v nodes words : List ℕ) (c :
     unfolding element_read
     acted_is d = rw (← on)
 
-    acted : (f : rules.Draft → Reading rules.Draft) {r : Step} {nodes' words' : List ℕ} → ((d : rules.Draft) → acted_read kind alone t p v d ≡ f d) → Follows f c nodes words r nodes' words' → Follows (element_at kind alone t p v) c nodes words r nodes' words'
+    acted : (f : rules.Draft → Reading rules.Draft) {r : Result Draft Fault} {nodes' words' : List ℕ} → ((d : rules.Draft) → acted_read kind alone t p v d ≡ f d) → Follows f c nodes words r nodes' words' → Follows (element_at kind alone t p v) c nodes words r nodes' words'
     acted f {r} {nodes'} {words'} e h = record { follows = λ d m. subst (λ (x : Reading rules.Draft). Steps x r nodes' words') (sym (acted_is d ∙ e d)) (h.follows d m) }
 
-    pub element_seid : {r : Step} → t ≡ ie.fseid → Passes (seid_read p v) c r → Follows (element_at kind alone t p v) c nodes words r nodes words
+    pub element_seid : {r : Result Draft Fault} → t ≡ ie.fseid → Passes (seid_read p v) c r → Follows (element_at kind alone t p v) c nodes words r nodes words
     unfolding acted_read
     element_seid e h = acted (seid_read p v) (λ d. rw e) (h.passes nodes words)
 
-    pub element_flags : {r : Step} → t ≡ ie.session_flags → Passes (flags_read p v) c r → Follows (element_at kind alone t p v) c nodes words r nodes words
+    pub element_flags : {r : Result Draft Fault} → t ≡ ie.session_flags → Passes (flags_read p v) c r → Follows (element_at kind alone t p v) c nodes words r nodes words
     unfolding acted_read
     element_flags e h = acted (flags_read p v) (λ d. rw e) (h.passes nodes words)
 
-    pub element_csid : {r : Step} {nodes' words' : List ℕ} → t ≡ ie.fqcsid → Follows (csid_read kind alone p v) c nodes words r nodes' words' → Follows (element_at kind alone t p v) c nodes words r nodes' words'
+    pub element_csid : {r : Result Draft Fault} {nodes' words' : List ℕ} → t ≡ ie.fqcsid → Follows (csid_read kind alone p v) c nodes words r nodes' words' → Follows (element_at kind alone t p v) c nodes words r nodes' words'
     unfolding acted_read
     element_csid e h = acted (csid_read kind alone p v) (λ d. rw e) h
 
-    pub element_note : {b : Draft} → t ≡ ie.update_endpoint → b ≡ with_note c → Follows (element_at kind alone t p v) c nodes words (Next b) nodes words
+    pub element_note : {b : Draft} → t ≡ ie.update_endpoint → b ≡ with_note c → Follows (element_at kind alone t p v) c nodes words (Ok b) nodes words
     unfolding acted_read
     element_note e i = rw i (acted (λ d. done (with_item updates_endpoint d)) (λ d. rw e) (record { follows = λ d m. went (with_item updates_endpoint d) refl (note_added m) }))
 
@@ -83,7 +83,7 @@ module _ (kind : ℕ) (alone : Bool) (t p : ℕ) (v nodes words : List ℕ) (c :
           go false false true h = absurd (f (one_of t 65 [] (of_true h)))
           go false false false h = absurd (of_true h)
 
-      pub element_group : {r : Step} {words' : List ℕ} → Puts (group_at t p v) c words r words' → Follows (element_at kind alone t p v) c nodes words r nodes words'
+      pub element_group : {r : Result Draft Fault} {words' : List ℕ} → Puts (group_at t p v) c words r words' → Follows (element_at kind alone t p v) c nodes words r nodes words'
       unfolding acted_read
       element_group h = acted (group_at t p v) (λ d. rw (ne_eqb t ie.fseid a, ne_eqb t ie.session_flags b, ne_eqb t ie.fqcsid f, ne_eqb t ie.update_endpoint g)) (h.puts nodes)
 

@@ -22,18 +22,16 @@ use Rattle.rules.specs.Types as ie
 use Rattle.plan.specs.Rows.{word, row_pdr, row_endpoint, row_change, row_local, row_fteid, row_ue, ue_from, row_far, row_address, present, row_width}
 use Rattle.plan.specs.Words as its
 use Rattle.frame.proofs.Among.{OneOf}
-use Rattle.reading.specs.declared.Verdict.{Verdict}
-use Rattle.reading.specs.declared.Verdict.TheVariants as verdict
-use Rattle.reading.specs.Verdicts.{stopped, numbered, outcome}
+use Rattle.reading.specs.Verdicts.{stopped, numbered, outcome, fine}
 use Rattle.reading.specs.Rows.{row_members, Tidy, Reads, closing, closed_read}
 use Rattle.reading.proofs.MemberLaws.{stops, is_done}
 use Rattle.reading.proofs.Places.{one_of}
 use Rattle.reading.proofs.RowLaws.{apart}
 use Rattle.request.specs.Items.{csid_item, item_of, row_item, is_update, has_row, Puts, with_row, group_types, group_at}
 use Rattle.request.specs.declared.items.Draft.{Draft}
-use Rattle.request.specs.declared.items.Step.{Step}
-use Rattle.request.specs.declared.items.Step.TheVariants.{Fault, Next}
 use Rattle.request.proofs.DraftLaws.{step_fault, went, row_added}
+use Rattle.std.specs.Prelude.{Result, Ok, Err}
+use Rattle.reading.specs.declared.Fault.{Fault}
 
 -- ---- groups
 
@@ -162,17 +160,17 @@ no_members_lem = refl
 pub tidy_start : Tidy (replicate row_width 0)
 tidy_start = record { wide = refl; pdr_id = zero-le; precedence = zero-le; far = zero-le; source = zero-le; endpoint_id = zero-le; pdi = zero-le }
 
-module _ (t : ℕ) (k : member t group_types ≡ true) (p : ℕ) (v row : List ℕ) (r : Verdict) (c : Draft) (words : List ℕ) (read : Reads (closed_read t p v (row_members (replicate row_width 0))) row r) where
-  pub group_refused : {n x y : ℕ} {s : Step} → r ≡ verdict.Refused n x y → s ≡ Fault n x y → Puts (group_at t p v) c words s words
-  group_refused {n} {x} {y} q e =
-      let h : numbered (closed_read t p v no_members) ≡ stopped n x y = ap (λ (m : Members). numbered (closed_read t p v m)) (sym no_members_lem) ∙ sym read.told ∙ ap (λ (z : Verdict). outcome z (row_members row)) q in
+module _ (t : ℕ) (k : member t group_types ≡ true) (p : ℕ) (v row : List ℕ) (r : Result (Unit {0}) Fault) (c : Draft) (words : List ℕ) (read : Reads (closed_read t p v (row_members (replicate row_width 0))) row r) where
+  pub group_refused : {f : Fault} {s : Result Draft Fault} → r ≡ Err f → s ≡ Err f → Puts (group_at t p v) c words s words
+  group_refused {f} q e =
+      let h : numbered (closed_read t p v no_members) ≡ stopped f.cause f.kind f.place = ap (λ (m : Members). numbered (closed_read t p v m)) (sym no_members_lem) ∙ sym read.told ∙ ap (λ (z : Result (Unit {0}) Fault). outcome z (row_members row)) q in
       rw e (record { puts = λ nodes. record { follows = λ d m. step_fault (stops (group_read t p v) _ (group_fault t k p v h)) } })
 
-  pub group_taken : r ≡ verdict.Fine → row_width * c.rows + row_width ≤ length words → {b : Draft} {words' : List ℕ} → b ≡ with_row (eqb t ie.create_pdr) c → words' ≡ put (row_width * c.rows) (set row 0 t) words
-      → Puts (group_at t p v) c words (Next b) words'
+  pub group_taken : r ≡ fine → row_width * c.rows + row_width ≤ length words → {b : Draft} {words' : List ℕ} → b ≡ with_row (eqb t ie.create_pdr) c → words' ≡ put (row_width * c.rows) (set row 0 t) words
+      → Puts (group_at t p v) c words (Ok b) words'
   group_taken q room to stored =
       let h : closed_read t p v no_members ≡ done (row_members row) =
-      is_done _ _ (ap (λ (m : Members). numbered (closed_read t p v m)) (sym no_members_lem) ∙ sym read.told ∙ ap (λ (y : Verdict). outcome y (row_members row)) q) in
+      is_done _ _ (ap (λ (m : Members). numbered (closed_read t p v m)) (sym no_members_lem) ∙ sym read.told ∙ ap (λ (y : Result (Unit {0}) Fault). outcome y (row_members row)) q) in
       let i = item_of t row in
       let g : group_read t p v ≡ done i = group_item row t k p v h in
       let wide = read.tidy.wide in

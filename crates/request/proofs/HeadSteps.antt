@@ -17,12 +17,12 @@ use Rattle.rules.specs.Request.{with_seid, with_restores}
 use Rattle.rules.specs.Types as ie
 use Rattle.rules.specs.Causes as why
 use Rattle.element.proofs.FlagLaws.{bit_first}
-use Rattle.reading.specs.Verdicts.{stopped, numbered}
+use Rattle.reading.specs.Verdicts.{stopped, numbered, fault}
 use Rattle.request.specs.Items.{flags_of, SeidThere, Means, Passes}
 use Rattle.request.specs.declared.items.Draft.{Draft}
-use Rattle.request.specs.declared.items.Step.{Step}
-use Rattle.request.specs.declared.items.Step.TheVariants.{Fault, Next}
 use Rattle.request.proofs.DraftLaws.{step_fault, went}
+use Rattle.std.specs.Prelude.{Result, Ok}
+use Rattle.reading.specs.declared.Fault.{Fault}
 
 -- ---- the F-SEID
 
@@ -55,7 +55,7 @@ module _ (p : ℕ) (v : List ℕ) where
       go none e t = refl
       go (some n) e t = absurd (t e)
 
-  pub seid_repeat : (c : Draft) → (c.seid ≡ 0 → ⊥) → Passes (seid_read p v) c (Fault why.incorrect ie.fseid p)
+  pub seid_repeat : (c : Draft) → (c.seid ≡ 0 → ⊥) → Passes (seid_read p v) c (fault why.incorrect ie.fseid p)
   unfolding seid_read cause_of
   seid_repeat c h = record { passes = λ nodes words. record { follows = λ d m. step_fault (go d d.seid m.seid) } }
     where
@@ -63,12 +63,12 @@ module _ (p : ℕ) (v : List ℕ) where
       go d none e = absurd (h e)
       go d (some n) e = unfold cause_of in refl
 
-  pub seid_refused : (c : Draft) (q : Refusal) {r : Step} → c.seid ≡ 0 → refuse q ≡ read_fseid v → r ≡ Fault (cause_of q) ie.fseid p → Passes (seid_read p v) c r
+  pub seid_refused : (c : Draft) (q : Refusal) {r : Result Draft Fault} → c.seid ≡ 0 → refuse q ≡ read_fseid v → r ≡ fault (cause_of q) ie.fseid p → Passes (seid_read p v) c r
   unfolding seid_read
   seid_refused c q h e s = rw s (record { passes = λ nodes words. record { follows = λ d m. step_fault (rw (seid_none m h, ← e)) } })
 
   pub seid_value : (c : Draft) (n : ℕ) → c.seid ≡ 0 → value n ≡ read_fseid v
-      → Passes (seid_read p v) c (Next (record { rows = c.rows; seid = n; flags = c.flags; noted = c.noted; creates = c.creates }))
+      → Passes (seid_read p v) c (Ok (record { rows = c.rows; seid = n; flags = c.flags; noted = c.noted; creates = c.creates }))
   unfolding seid_read
   seid_value c n h e =
       record {
@@ -88,7 +88,7 @@ module _ (p : ℕ) (v : List ℕ) (c : Draft) where
       go none e = refl
       go (some b) e = absurd (omega arith)
 
-  pub flags_repeat : (c.flags ≡ 0 → ⊥) → Passes (flags_read p v) c (Fault why.incorrect ie.session_flags p)
+  pub flags_repeat : (c.flags ≡ 0 → ⊥) → Passes (flags_read p v) c (fault why.incorrect ie.session_flags p)
   unfolding flags_read
   flags_repeat h = record { passes = λ nodes words. record { follows = λ d m. step_fault (go _ d.restores m.flags) } }
     where
@@ -96,12 +96,12 @@ module _ (p : ℕ) (v : List ℕ) (c : Draft) where
       go x none e = absurd (h e)
       go x (some b) e = unfold cause_of in refl
 
-  pub flags_short : c.flags ≡ 0 → length v < 1 → Passes (flags_read p v) c (Fault why.wrong_length ie.session_flags p)
+  pub flags_short : c.flags ≡ 0 → length v < 1 → Passes (flags_read p v) c (fault why.wrong_length ie.session_flags p)
   unfolding flags_read cause_of
   flags_short h l = record { passes = λ nodes words. record { follows = λ d m. step_fault (rw (flags_none m h, lt-ltb _ _ l)) } }
 
   pub flags_value : c.flags ≡ 0 → 1 ≤ length v
-      → Passes (flags_read p v) c (Next (record { rows = c.rows; seid = c.seid; flags = 1 + get_or v 0 0 % 2; noted = c.noted; creates = c.creates }))
+      → Passes (flags_read p v) c (Ok (record { rows = c.rows; seid = c.seid; flags = 1 + get_or v 0 0 % 2; noted = c.noted; creates = c.creates }))
   unfolding flags_read octet_at
   flags_value h l =
       record {

@@ -20,19 +20,17 @@ use Rattle.plan.specs.Rows.{row_width, rows_of, tagged, row_csid, is_null_row}
 use Rattle.rules.specs.Types as ie
 use Rattle.rules.specs.Causes as why
 use Rattle.frame.specs.Framed.{framing_fault}
-use Rattle.frame.specs.declared.Framing.{Framing}
-use Rattle.frame.specs.declared.Framing.TheVariants as framing
-use Rattle.reading.specs.Verdicts.{stopped, numbered}
+use Rattle.reading.specs.Verdicts.{stopped, numbered, fault, framing}
 use Rattle.frame.specs.HeaderOf.{SessionHeader}
 use Rattle.request.specs.Items.{Enough, AllRead, plan_of, concluded}
 use Rattle.request.specs.Requests.{RoomFor, refused, result_of, from_framing, reading_of, meant, rows_left, Read}
-use Rattle.request.specs.declared.Reading as code
-use Rattle.request.specs.declared.Reading.TheVariants as reading
 use Rattle.request.specs.declared.items.Draft.{Draft}
-use Rattle.request.specs.declared.items.Step.{Step}
-use Rattle.request.specs.declared.items.Step.TheVariants.{Fault, Next}
 use Rattle.request.proofs.PlanLaws.{csids_same, nulls_same}
 use Rattle.request.proofs.TurnLaws.{concluded_same}
+use Rattle.std.specs.Prelude.{Result, Ok, Err}
+use Rattle.reading.specs.declared.Fault.{Fault}
+use Rattle.request.specs.declared.Plan.{Plan}
+use Rattle.frame.specs.declared.Spot.{Spot}
 
 -- no rows, no null FQ-CSID among them
 no_rows : (words : List ℕ) {X : Type 0} → any is_null_row (tagged ie.fqcsid (rows_of 0 words)) ≡ true → X
@@ -40,12 +38,12 @@ unfolding any tagged keep slices
 no_rows words h = let z : ◌≡◌ {A = ℕ} 0 1 = cc in absurd (omega arith)
 
 -- a refusal leaves no rows
-refused_whole : {msg words : List ℕ} {c t p : ℕ} → refused c t p ≡ reading_of msg → Read msg (reading.Fault c t p) words
+refused_whole : {msg words : List ℕ} {c t p : ℕ} → refused c t p ≡ reading_of msg → Read msg (fault c t p) words
 refused_whole {words = words} h = record { result = h; room = omega arith; only_null = λ e. no_rows words e }
 
-pub not_framed : (msg : List ℕ) {words : List ℕ} (f : Framing) → framing_fault f ≡ frame_fault msg → (t p : ℕ) → f ≡ framing.Fault t p → Read msg (reading.Fault why.wrong_length t p) words
+pub not_framed : (msg : List ℕ) {words : List ℕ} (f : Result (Unit {0}) Spot) → framing_fault f ≡ frame_fault msg → (x : Spot) → f ≡ Err x → Read msg (Err (framing x)) words
 unfolding reading_of from_framing
-not_framed msg f framed t p h = refused_whole (ap (from_framing msg) (sym (ap framing_fault h) ∙ framed))
+not_framed msg f framed x h = refused_whole (ap (from_framing msg) (sym (ap framing_fault h) ∙ framed))
 
 module _ (msg : List ℕ) (head : SessionHeader msg) where
   abbrev tail : List ℕ
@@ -73,23 +71,23 @@ module _ (msg : List ℕ) (head : SessionHeader msg) where
     unfolding read top_read session_read
     read_is = rw head.kind (ap₂ session_read (sym kind) placed)
 
-    module _ {words : List ℕ} (r : Step) (all : AllRead (elements_read k (alone_in (elements body_place (take (length msg - 16) (drop 16 msg)))) (elements body_place (take (length msg - 16) (drop 16 msg))) empty_draft) r words) where
-      stopped_read : (c t p : ℕ) → r ≡ Fault c t p → refused c t p ≡ result_of (read msg)
-      stopped_read c t p q = go drafted (all.fault c t p q) ∙ sym (ap (λ (x : Reading Request). result_of x) read_is)
+    module _ {words : List ℕ} (r : Result Draft Fault) (all : AllRead (elements_read k (alone_in (elements body_place (take (length msg - 16) (drop 16 msg)))) (elements body_place (take (length msg - 16) (drop 16 msg))) empty_draft) r words) where
+      stopped_read : (f : Fault) → r ≡ Err f → refused f.cause f.kind f.place ≡ result_of (read msg)
+      stopped_read f q = go drafted (all.fault f q) ∙ sym (ap (λ (x : Reading Request). result_of x) read_is)
         where
-          go : (x : Reading rules.Draft) → numbered x ≡ stopped c t p → refused c t p ≡ result_of (and_then x (finished k))
-          go (faulty f) h = sym cc
+          go : (x : Reading rules.Draft) → numbered x ≡ stopped f.cause f.kind f.place → refused f.cause f.kind f.place ≡ result_of (and_then x (finished k))
+          go (faulty g) h = sym cc
           go (done d) h = let z : ◌≡◌ {A = ℕ} 0 1 = cc in absurd (omega arith)
 
-      module _ (f : Framing) (framed : framing_fault f ≡ frame_fault msg) (fine : f ≡ framing.Framed) where
+      module _ (f : Result (Unit {0}) Spot) (framed : framing_fault f ≡ frame_fault msg) (fine : f ≡ Ok tt) where
         by_reading : reading_of msg ≡ result_of (read msg)
         unfolding reading_of from_framing
         by_reading = ap (from_framing msg) (sym (sym (ap framing_fault fine) ∙ framed))
 
-        pub read_refused : {exit : List ℕ} (c t p : ℕ) → r ≡ Fault c t p → Read msg (reading.Fault c t p) exit
-        read_refused c t p q = refused_whole (stopped_read c t p q ∙ sym by_reading)
+        pub read_refused : {exit : List ℕ} (g : Fault) → r ≡ Err g → Read msg (Err g) exit
+        read_refused g q = refused_whole (stopped_read g q ∙ sym by_reading)
 
-        pub read_whole : (d : Draft) → r ≡ Next d → {q : code.Reading} → q ≡ concluded k d → Read msg q words
+        pub read_whole : (d : Draft) → r ≡ Ok d → {q : Result Plan Fault} → q ≡ concluded k d → Read msg q words
         read_whole d e {q} h =
             let w = all.next d e in
             let m = w.read.means in
@@ -103,14 +101,14 @@ module _ (msg : List ℕ) (head : SessionHeader msg) where
             planned : (d : Draft) → (rows_left (concluded k d) ≡ d.rows) ⊎ (rows_left (concluded k d) ≡ 0)
             planned d = unfold concluded in (go (eqb k establishment) (eqb d.flags 2 || d.creates) (eqb d.seid 0))
               where
-                go : (a b e : Bool) → (rows_left (pick a (pick b (pick e (reading.Fault why.mandatory_missing ie.fseid 0) (reading.Whole (plan_of d d.seid))) (reading.Fault why.mandatory_missing ie.create_pdr 0)) (reading.Whole (plan_of d 0))) ≡ d.rows)
-                    ⊎ (rows_left (pick a (pick b (pick e (reading.Fault why.mandatory_missing ie.fseid 0) (reading.Whole (plan_of d d.seid))) (reading.Fault why.mandatory_missing ie.create_pdr 0)) (reading.Whole (plan_of d 0))) ≡ 0)
+                go : (a b e : Bool) → (rows_left (pick a (pick b (pick e (fault why.mandatory_missing ie.fseid 0) (Ok (plan_of d d.seid))) (fault why.mandatory_missing ie.create_pdr 0)) (Ok (plan_of d 0))) ≡ d.rows)
+                    ⊎ (rows_left (pick a (pick b (pick e (fault why.mandatory_missing ie.fseid 0) (Ok (plan_of d d.seid))) (fault why.mandatory_missing ie.create_pdr 0)) (Ok (plan_of d 0))) ≡ 0)
                 go true true true = inr refl
                 go true true false = inl refl
                 go true false e = inr refl
                 go false b e = inl refl
 
             by_plan : (d : Draft) → row_width * d.rows ≤ length words → (any is_null_row (tagged ie.fqcsid (rows_of d.rows words)) ≡ true → collect row_csid (tagged ie.fqcsid (rows_of d.rows words)) ≡ [])
-                → (q : code.Reading) → (rows_left q ≡ d.rows) ⊎ (rows_left q ≡ 0) → meant q words ≡ reading_of msg → Read msg q words
+                → (q : Result Plan Fault) → (rows_left q ≡ d.rows) ⊎ (rows_left q ≡ 0) → meant q words ≡ reading_of msg → Read msg q words
             by_plan d room alone q (inl n) s = record { result = s; room = omega arith; only_null = subst (λ (i : ℕ). any is_null_row (tagged ie.fqcsid (rows_of i words)) ≡ true → collect row_csid (tagged ie.fqcsid (rows_of i words)) ≡ []) (sym n) alone }
             by_plan d room alone q (inr n) s = record { result = s; room = omega arith; only_null = subst (λ (i : ℕ). any is_null_row (tagged ie.fqcsid (rows_of i words)) ≡ true → collect row_csid (tagged ie.fqcsid (rows_of i words)) ≡ []) (sym n) (λ e. no_rows words e) }

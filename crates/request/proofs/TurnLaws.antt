@@ -25,16 +25,16 @@ use Rattle.plan.specs.Rows.{row_width}
 use Rattle.laws.proofs.WeightLaws.{Light, light_none, light_next, light_room, light_end}
 use Rattle.frame.proofs.Walk.{value_places}
 use Rattle.frame.proofs.Front.{Front, behind}
-use Rattle.reading.specs.Verdicts.{Outcome, stopped, numbered}
+use Rattle.reading.specs.Verdicts.{stopped, numbered, fault}
 use Rattle.reading.proofs.MemberLaws.{stops}
 use Rattle.request.specs.Items.{row_item, has_row, met, SeidThere, Means, Follows, Roomy, Enough, Ended, AllRead, element_at, plan_of, concluded}
 use Rattle.request.specs.Requests.{whole, result_of, meant}
 use Rattle.request.specs.declared.Plan.{Plan}
-use Rattle.request.specs.declared.Reading.TheVariants as reading
 use Rattle.request.specs.declared.items.Draft.{Draft}
-use Rattle.request.specs.declared.items.Step.{Step}
-use Rattle.request.specs.declared.items.Step.TheVariants.{Fault, Next}
 use Rattle.request.proofs.PlanLaws.{no_row, restoring_same, request_same}
+use Rattle.std.specs.Prelude.{Result, Ok, Err}
+use Rattle.reading.specs.declared.Fault.{Fault}
+use Rattle.request.proofs.DraftLaws.{same_Err}
 
 -- ---- the loop
 
@@ -94,21 +94,18 @@ module _ {kind : ℕ} {s words₀ : List ℕ} {at : ℕ} {rest words nodes : Lis
     unfolding elements_read
     ahead = g.same ∙ ap (λ (es : List Element). elements_read kind (alone_in (elements body_place s)) es g.draft) (f.cons at)
 
-    module _ {r : Step} {nodes' words' : List ℕ} (step : Follows (element_at kind (alone_in (elements body_place s)) t at v) c nodes words r nodes' words') where
-      pub turn_fault : {n x y : ℕ} {exit : List ℕ} → r ≡ Fault n x y → AllRead (elements_read kind (alone_in (elements body_place s)) (elements body_place s) empty_draft) r exit
-      turn_fault {n} {x} {y} q =
-          let o = (step.follows g.draft g.means).fault n x y q in
-          let all : numbered (elements_read kind (alone_in (elements body_place s)) (elements body_place s) empty_draft) ≡ stopped n x y =
+    module _ {r : Result Draft Fault} {nodes' words' : List ℕ} (step : Follows (element_at kind (alone_in (elements body_place s)) t at v) c nodes words r nodes' words') where
+      pub turn_fault : {f : Fault} {exit : List ℕ} → r ≡ Err f → AllRead (elements_read kind (alone_in (elements body_place s)) (elements body_place s) empty_draft) (Err f) exit
+      turn_fault {f} q =
+          let o = (step.follows g.draft g.means).fault f q in
+          let all : numbered (elements_read kind (alone_in (elements body_place s)) (elements body_place s) empty_draft) ≡ stopped f.cause f.kind f.place =
           ap (λ (z : Reading asked.Draft). numbered z) ahead ∙ stops (element_at kind (alone_in (elements body_place s)) t at v g.draft) (elements_read kind (alone_in (elements body_place s)) (elements (at + e) (behind rest e))) o in
-          record { fault = λ m k p h. all ∙ same_fault (sym q ∙ h); next = λ d h. no_next (sym q ∙ h) }
+          record { fault = λ k h. all ∙ ap (λ (x : Fault). stopped x.cause x.kind x.place) (same_Err _ _ h); next = λ d h. no_next h }
         where
-          same_fault : {m k p : ℕ} → Fault n x y ≡ Fault m k p → ◌≡◌ {A = Outcome asked.Draft} (stopped n x y) (stopped m k p)
-          same_fault h = cc
-
-          no_next : {d : Draft} {X : Type 0} → Fault n x y ≡ Next d → X
+          no_next : {d : Draft} {X : Type 0} → ◌≡◌ {A = Result Draft Fault} (Err f) (Ok d) → X
           no_next h = let z : ◌≡◌ {A = ℕ} 0 1 = cc in absurd (omega arith)
 
-      pub turn_next : {b : Draft} → r ≡ Next b → length words' ≡ length words → length nodes' ≡ 16 → Going kind s words₀ (at + e) (behind rest e) words' nodes' b
+      pub turn_next : {b : Draft} → r ≡ Ok b → length words' ≡ length words → length nodes' ≡ 16 → Going kind s words₀ (at + e) (behind rest e) words' nodes' b
       turn_next {b} q long wide =
           let w = (step.follows g.draft g.means).next b q in
           let l = f.low in
@@ -125,19 +122,19 @@ module _ {kind : ℕ} {s words₀ : List ℕ} {at : ℕ} {rest words nodes : Lis
             wide = wide;
           }
 
-  pub turns_end : elements at rest ≡ [] → Enough s words₀ → AllRead (elements_read kind (alone_in (elements body_place s)) (elements body_place s) empty_draft) (Next c) words
+  pub turns_end : elements at rest ≡ [] → Enough s words₀ → AllRead (elements_read kind (alone_in (elements body_place s)) (elements body_place s) empty_draft) (Ok c) words
   unfolding elements_read
   turns_end e enough =
       let whole : elements_read kind (alone_in (elements body_place s)) (elements body_place s) empty_draft ≡ done g.draft = g.same ∙ ap (λ (es : List Element). elements_read kind (alone_in (elements body_place s)) es g.draft) e in
       let few = light_end has_row no_row g.light in
       let n = rows_are in
       let ended : Ended (elements_read kind (alone_in (elements body_place s)) (elements body_place s) empty_draft) c words = record { nodes = nodes; read = record { draft = g.draft; is = whole; means = g.means }; room = let l = g.long in let r = enough.row in omega arith } in
-      record { fault = λ m x y h. no_fault h; next = λ b h. subst (λ (k : Draft). Ended (elements_read kind (alone_in (elements body_place s)) (elements body_place s) empty_draft) k words) (same_draft h) ended }
+      record { fault = λ f h. no_fault h; next = λ b h. subst (λ (k : Draft). Ended (elements_read kind (alone_in (elements body_place s)) (elements body_place s) empty_draft) k words) (same_draft h) ended }
     where
-      no_fault : {m x y : ℕ} {X : Type 0} → Next c ≡ Fault m x y → X
+      no_fault : {f : Fault} {X : Type 0} → ◌≡◌ {A = Result Draft Fault} (Ok c) (Err f) → X
       no_fault h = let z : ◌≡◌ {A = ℕ} 0 1 = cc in absurd (omega arith)
 
-      same_draft : {b : Draft} → Next c ≡ Next b → c ≡ b
+      same_draft : {b : Draft} → ◌≡◌ {A = Result Draft Fault} (Ok c) (Ok b) → c ≡ b
       same_draft h = cc
 
 -- ---- the end of a message
@@ -148,16 +145,16 @@ module _ {d : asked.Draft} {c : Draft} {nodes words : List ℕ} (m : Means d c n
   concluded_same kind = go (eqb kind establishment)
     where
       by_seid : (o : Option ℕ) → value_or 0 o ≡ c.seid → SeidThere o
-          → meant (pick (eqb c.seid 0) (reading.Fault why.mandatory_missing ie.fseid 0) (reading.Whole (plan_of c c.seid))) words ≡ result_of (requiring missing ie.fseid 0 o (λ n. done (request_from n d)))
+          → meant (pick (eqb c.seid 0) (fault why.mandatory_missing ie.fseid 0) (Ok (plan_of c c.seid))) words ≡ result_of (requiring missing ie.fseid 0 o (λ n. done (request_from n d)))
       by_seid none e t = rw (sym e)
       by_seid (some n) e t = rw (← e, ne_eqb n 0 t) (ap whole (request_same m n))
 
-      go : (b : Bool) → meant (pick b (pick (eqb c.flags 2 || c.creates) (pick (eqb c.seid 0) (reading.Fault why.mandatory_missing ie.fseid 0) (reading.Whole (plan_of c c.seid))) (reading.Fault why.mandatory_missing ie.create_pdr 0)) (reading.Whole (plan_of c 0))) words
+      go : (b : Bool) → meant (pick b (pick (eqb c.flags 2 || c.creates) (pick (eqb c.seid 0) (fault why.mandatory_missing ie.fseid 0) (Ok (plan_of c c.seid))) (fault why.mandatory_missing ie.create_pdr 0)) (Ok (plan_of c 0))) words
           ≡ result_of (pick b (pick (restoring_in d || creates_any d.items) (requiring missing ie.fseid 0 d.seid (λ n. done (request_from n d))) (rules.refusal_at missing ie.create_pdr 0)) (done (request_from 0 d)))
       go false = ap whole (request_same m 0)
-      go true = ap₂ (λ (x y : Bool). meant (pick (x || y) (pick (eqb c.seid 0) (reading.Fault why.mandatory_missing ie.fseid 0) (reading.Whole (plan_of c c.seid))) (reading.Fault why.mandatory_missing ie.create_pdr 0)) words) (restoring_same m) m.creates ∙ by_test (restoring_in d || creates_any d.items)
+      go true = ap₂ (λ (x y : Bool). meant (pick (x || y) (pick (eqb c.seid 0) (fault why.mandatory_missing ie.fseid 0) (Ok (plan_of c c.seid))) (fault why.mandatory_missing ie.create_pdr 0)) words) (restoring_same m) m.creates ∙ by_test (restoring_in d || creates_any d.items)
         where
-          by_test : (x : Bool) → meant (pick x (pick (eqb c.seid 0) (reading.Fault why.mandatory_missing ie.fseid 0) (reading.Whole (plan_of c c.seid))) (reading.Fault why.mandatory_missing ie.create_pdr 0)) words
+          by_test : (x : Bool) → meant (pick x (pick (eqb c.seid 0) (fault why.mandatory_missing ie.fseid 0) (Ok (plan_of c c.seid))) (fault why.mandatory_missing ie.create_pdr 0)) words
               ≡ result_of (pick x (requiring missing ie.fseid 0 d.seid (λ n. done (request_from n d))) (rules.refusal_at missing ie.create_pdr 0))
           by_test true = by_seid d.seid (sym m.seid) m.seid_there
           by_test false = unfold cause_of in refl
@@ -172,20 +169,20 @@ lacks_no false h = let z : ◌≡◌ {A = ℕ} 0 1 = cc in absurd (omega arith)
 
 -- the cases of a message's end
 module _ (c : Draft) (kind : ℕ) where
-  pub end_other : {p : Plan} → (kind ≡ establishment → ⊥) → p ≡ plan_of c 0 → reading.Whole p ≡ concluded kind c
+  pub end_other : {p : Plan} → (kind ≡ establishment → ⊥) → p ≡ plan_of c 0 → Ok p ≡ concluded kind c
   unfolding concluded
   end_other h e = rw e (sym (rw (ne_eqb kind establishment h)))
 
   module _ (first : kind ≡ establishment) where
-    pub end_no_pdr : true ≡ not (eqb c.flags 2 || c.creates) → reading.Fault why.mandatory_missing ie.create_pdr 0 ≡ concluded kind c
+    pub end_no_pdr : true ≡ not (eqb c.flags 2 || c.creates) → fault why.mandatory_missing ie.create_pdr 0 ≡ concluded kind c
     unfolding concluded
     end_no_pdr h = sym (rw (first, lacks_yes (eqb c.flags 2 || c.creates) h))
 
     module _ (some-pdr : false ≡ not (eqb c.flags 2 || c.creates)) where
-      pub end_no_seid : c.seid ≡ 0 → reading.Fault why.mandatory_missing ie.fseid 0 ≡ concluded kind c
+      pub end_no_seid : c.seid ≡ 0 → fault why.mandatory_missing ie.fseid 0 ≡ concluded kind c
       unfolding concluded
       end_no_seid h = sym (rw (first, lacks_no (eqb c.flags 2 || c.creates) some-pdr, h))
 
-      pub end_whole : {p : Plan} → (c.seid ≡ 0 → ⊥) → p ≡ plan_of c c.seid → reading.Whole p ≡ concluded kind c
+      pub end_whole : {p : Plan} → (c.seid ≡ 0 → ⊥) → p ≡ plan_of c c.seid → Ok p ≡ concluded kind c
       unfolding concluded
       end_whole h e = rw e (sym (rw (first, lacks_no (eqb c.flags 2 || c.creates) some-pdr, ne_eqb c.seid 0 h)))

@@ -3,18 +3,9 @@
 use Rattle.std.specs.Prelude.{ℕ, ◌-◌, Bool, List, ◌∷◌, replicate, eqb}
 use Rattle.octets.specs.Choice.{pick}
 use Rattle.rules.specs.Types as ie
-use Rattle.rules.specs.Elements.{cause_of}
 use Rattle.rules.specs.Message.{modification}
 use Rattle.plan.specs.Rows.{row_width}
-use Rattle.element.specs.Answers.{refusal_of}
 use Rattle.fqcsid.specs.declared.FqCsid.{FqCsid}
-use Rattle.fqcsid.specs.declared.Answer as answer
-use Rattle.fqcsid.specs.declared.Answer.TheVariants as answer-case
-use Rattle.fseid.specs.declared.Answer as seid
-use Rattle.fseid.specs.declared.Answer.TheVariants as seid-case
-use Rattle.request.specs.declared.items.Draft.{Draft}
-use Rattle.request.specs.declared.items.Step.{Step}
-use Rattle.request.specs.declared.items.Step.TheVariants.{Fault, Next}
 use Rattle.request.specs.declared.row.Csid.{Csid}
 
 -- m CSIDs: m = 0 is the removal
@@ -34,12 +25,3 @@ unfoldable pub csid_taken : FqCsid → Csid
 csid_taken x =
     pick (eqb x.count 0) (bare_csid 2 x.node_type)
     (record { state = 1; node = x.node_type; id_type = x.id_type; high = x.address_high; low = x.address_low; csid = x.csids_1 })
-
--- what a reader's refusal of an element at a place leads to, else the draft as it was
-abbrev pub csid_refusal : ℕ → Draft → answer.Answer → Step
-csid_refusal p d (answer-case.Value x) = Next d
-csid_refusal p d (answer-case.Refused r) = Fault (cause_of (refusal_of r)) ie.fqcsid p
-
-abbrev pub seid_refusal : ℕ → Draft → seid.Answer → Step
-seid_refusal p d (seid-case.Value n) = Next d
-seid_refusal p d (seid-case.Refused r) = Fault (cause_of (refusal_of r)) ie.fseid p

@@ -1,7 +1,7 @@
 -- What was read of a message so far, as the code keeps it: a row of the plan for each item that has one, and a few numbers beside them.
 -- For the functions inside this crate.
 -- Assumes nothing.
-use Rattle.std.specs.Prelude.{◌≡◌, ℕ, ◌+◌, ◌*◌, ◌≤◌, Bool, true, false, not, ◌||◌, List, [], ◌∷◌, map, length, get_or, eqb}
+use Rattle.std.specs.Prelude.{◌≡◌, ℕ, ◌+◌, ◌*◌, ◌≤◌, Bool, true, false, not, ◌||◌, List, [], ◌∷◌, map, length, get_or, eqb, Result, Ok, Err}
 use Rattle.std.proofs.Math.Option.{Option, none, some}
 use Rattle.octets.specs.Choice.{pick, value_or, flag}
 use Rattle.octets.specs.Lists.{member, keep, any}
@@ -14,16 +14,11 @@ use Rattle.rules.specs.Request.{Item, creates_pdr, creates_endpoint, updates_pdr
 use Rattle.rules.specs.Causes as why
 use Rattle.plan.specs.Rows.{row_width, word, rows_of, row_pdr, row_endpoint, row_change, row_address}
 use Rattle.plan.specs.Words as its
-use Rattle.reading.specs.declared.Verdict.{Verdict}
-use Rattle.reading.specs.declared.Verdict.TheVariants.{Fine, Refused}
-use Rattle.reading.specs.Verdicts.{stopped, numbered}
+use Rattle.reading.specs.Verdicts.{stopped, numbered, fault}
 use Rattle.request.specs.Requests.{RoomFor}
 use Rattle.request.specs.declared.Plan.{Plan}
-use Rattle.request.specs.declared.Reading as code
-use Rattle.request.specs.declared.Reading.TheVariants as reading
 use Rattle.request.specs.declared.items.Draft.{Draft}
-use Rattle.request.specs.declared.items.Step.{Step}
-use Rattle.request.specs.declared.items.Step.TheVariants.{Fault, Next}
+use Rattle.reading.specs.declared.Fault.{Fault}
 
 -- ---- the item of a row
 
@@ -89,12 +84,12 @@ pub record DraftRead (result : Reading rules.Draft) (c : Draft) (nodes words : L
   pub means : Means draft c nodes words
 
 -- a step of the reading: the fault that the rules find, or a draft
-pub record Steps (result : Reading rules.Draft) (r : Step) (nodes words : List ℕ) : Type 0 where
-  pub fault : (c t p : ℕ) → r ≡ Fault c t p → numbered result ≡ stopped c t p
-  pub next : (c : Draft) → r ≡ Next c → DraftRead result c nodes words
+pub record Steps (result : Reading rules.Draft) (r : Result Draft Fault) (nodes words : List ℕ) : Type 0 where
+  pub fault : (f : Fault) → r ≡ Err f → numbered result ≡ stopped f.cause f.kind f.place
+  pub next : (c : Draft) → r ≡ Ok c → DraftRead result c nodes words
 
 -- it is the rules' step from any draft that the code's means
-pub record Follows (step : rules.Draft → Reading rules.Draft) (c : Draft) (nodes words : List ℕ) (r : Step) (nodes' words' : List ℕ) : Type 0 where
+pub record Follows (step : rules.Draft → Reading rules.Draft) (c : Draft) (nodes words : List ℕ) (r : Result Draft Fault) (nodes' words' : List ℕ) : Type 0 where
   pub follows : (d : rules.Draft) → Means d c nodes words → Steps (step d) r nodes' words'
 
 -- room for the node types, and for one more row
@@ -104,11 +99,11 @@ pub record Roomy (c : Draft) (nodes words : List ℕ) : Type 0 where
   pub few : c.rows ≤ 225
 
 -- a step that touches neither node types nor rows
-pub record Passes (step : rules.Draft → Reading rules.Draft) (c : Draft) (r : Step) : Type 0 where
+pub record Passes (step : rules.Draft → Reading rules.Draft) (c : Draft) (r : Result Draft Fault) : Type 0 where
   pub passes : (nodes words : List ℕ) → Follows step c nodes words r nodes words
 
 -- one that touches no node types
-pub record Puts (step : rules.Draft → Reading rules.Draft) (c : Draft) (words : List ℕ) (r : Step) (words' : List ℕ) : Type 0 where
+pub record Puts (step : rules.Draft → Reading rules.Draft) (c : Draft) (words : List ℕ) (r : Result Draft Fault) (words' : List ℕ) : Type 0 where
   pub puts : (nodes : List ℕ) → Follows step c nodes words r nodes words'
 
 -- a draft with element 129, and with one more row
@@ -117,11 +112,6 @@ with_note c = record { rows = c.rows; seid = c.seid; flags = c.flags; noted = tr
 
 abbrev pub with_row : Bool → Draft → Draft
 with_row b c = record { rows = c.rows + 1; seid = c.seid; flags = c.flags; noted = c.noted; creates = pick b true c.creates }
-
--- a verdict that is a refusal
-abbrev pub verdict_step : Draft → Verdict → Step
-verdict_step c Fine = Next c
-verdict_step c (Refused n t p) = Fault n t p
 
 -- the groups at the top of a message
 abbrev pub group_types : List ℕ
@@ -145,9 +135,9 @@ pub record Ended (result : Reading rules.Draft) (c : Draft) (words : List ℕ) :
   pub read : DraftRead result c nodes words
   pub room : row_width * c.rows ≤ length words
 
-pub record AllRead (result : Reading rules.Draft) (r : Step) (words : List ℕ) : Type 0 where
-  pub fault : (c t p : ℕ) → r ≡ Fault c t p → numbered result ≡ stopped c t p
-  pub next : (c : Draft) → r ≡ Next c → Ended result c words
+pub record AllRead (result : Reading rules.Draft) (r : Result Draft Fault) (words : List ℕ) : Type 0 where
+  pub fault : (f : Fault) → r ≡ Err f → numbered result ≡ stopped f.cause f.kind f.place
+  pub next : (c : Draft) → r ≡ Ok c → Ended result c words
 
 -- ---- the plan
 
@@ -155,10 +145,10 @@ abbrev pub plan_of : Draft → ℕ → Plan
 plan_of c n = record { rows = c.rows; seid = n; restoring = eqb c.flags 2; noted = c.noted }
 
 -- a message's end: an establishment needs a Create PDR unless it is a restoration, and its F-SEID
-unfoldable pub concluded : ℕ → Draft → code.Reading
+unfoldable pub concluded : ℕ → Draft → Result Plan Fault
 concluded kind c =
     pick (eqb kind establishment)
     (pick (eqb c.flags 2 || c.creates)
-    (pick (eqb c.seid 0) (reading.Fault why.mandatory_missing ie.fseid 0) (reading.Whole (plan_of c c.seid)))
-    (reading.Fault why.mandatory_missing ie.create_pdr 0))
-    (reading.Whole (plan_of c 0))
+    (pick (eqb c.seid 0) (fault why.mandatory_missing ie.fseid 0) (Ok (plan_of c c.seid)))
+    (fault why.mandatory_missing ie.create_pdr 0))
+    (Ok (plan_of c 0))

@@ -11,8 +11,10 @@ use Rattle.rules.specs.Request.{Request}
 use Rattle.plan.specs.Rows.{row_width, rows_of, tagged, row_csid, is_null_row, request_in}
 use Rattle.rules.specs.Types as ie
 use Rattle.rules.specs.Causes as why
-use Rattle.request.specs.declared.Reading.{Reading}
-use Rattle.request.specs.declared.Reading.TheVariants as reading
+use Rattle.std.specs.Prelude as std
+use Rattle.std.specs.Prelude.{Ok, Err}
+use Rattle.reading.specs.declared.Fault.{Fault}
+use Rattle.request.specs.declared.Plan.{Plan}
 
 -- Rows of a message with so many octets after its header, and one more while octets of an element are left: each takes 9 octets at least, a
 -- Remove Traffic Endpoint, but for one FQ-CSID of null length.
@@ -42,17 +44,17 @@ unfoldable pub reading_of : List ℕ → Result
 reading_of msg = from_framing msg (frame_fault msg)
 
 -- what an answer means, with the words that it leaves
-abbrev pub meant : Reading → List ℕ → Result
-meant (reading.Fault c t p) words = refused c t p
-meant (reading.Whole p) words = whole (request_in p.seid p.restoring p.noted (rows_of p.rows words))
+abbrev pub meant : std.Result Plan Fault → List ℕ → Result
+meant (Err f) words = refused f.cause f.kind f.place
+meant (Ok p) words = whole (request_in p.seid p.restoring p.noted (rows_of p.rows words))
 
 -- how many rows it leaves
-abbrev pub rows_left : Reading → ℕ
-rows_left (reading.Fault c t p) = 0
-rows_left (reading.Whole p) = p.rows
+abbrev pub rows_left : std.Result Plan Fault → ℕ
+rows_left (Err f) = 0
+rows_left (Ok p) = p.rows
 
 -- what an answer has to mean, and that its rows lie within the words
-pub record Read (msg : List ℕ) (r : Reading) (words : List ℕ) : Type 0 where
+pub record Read (msg : List ℕ) (r : std.Result Plan Fault) (words : List ℕ) : Type 0 where
   pub result : meant r words ≡ reading_of msg
   pub room : row_width * rows_left r ≤ length words
   -- where an FQ-CSID removes all, no other is there

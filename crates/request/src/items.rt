@@ -5,11 +5,9 @@ ghost use Rattle.rules.specs.Message.{body_place, elements, acted_on};
 ghost use Rattle.rules.specs.Reading.{alone_in, seid_read, flags_read, elements_read};
 ghost use Rattle.rules.specs.Request.{empty_draft};
 ghost use Rattle.request.specs.Items.{Passes, Follows, Roomy, Enough, AllRead, element_at, with_note};
-ghost use Rattle.request.specs.Csids.{seid_refusal};
 
 use format::{causes, kinds, types};
-use frame::First;
-use fseid::Answer;
+use reading::{Fault, answer_at};
 
 // What was read of a message so far: how many rows there are, the SEID of the F-SEID (0 before it is met), the flags 186 (0 before they are
 // met, then 1, or 2 for a restoration), whether element 129 was met, and whether a PDR is created.
@@ -22,60 +20,41 @@ pub struct Draft {
     pub creates: bool,
 }
 
-// What reading an element leads to: a fault, its cause, the type at fault and its place in the message; or what was read with it.
-#[derive(Clone, Copy)]
-pub enum Step {
-    Fault(u64, u64, usize),
-    Next(Draft),
-}
-
-// The refusal in an answer on an F-SEID at a place, if it is one.
-fn refused(answer: Answer, place: usize, d: Draft) -> Step
-    ensures { result ≡ seid_refusal place d answer }
-{
-    let Err(refusal) = answer else {
-        return Step::Next(d);
-    };
-    Step::Fault(element::cause_of(refusal), types::FSEID, place)
-}
-
 // An F-SEID at a place, which may come once.
-fn read_seid(v: &[u8], place: usize, d: Draft) -> Step
+fn read_seid(v: &[u8], place: usize, d: Draft) -> Result<Draft, Fault>
     ensures { Passes (seid_read place v.now) d result }
 {
     if d.seid != 0 {
-        return Step::Fault(causes::INCORRECT, types::FSEID, place);
+        return Err(Fault {
+            cause: causes::INCORRECT,
+            kind: types::FSEID,
+            place,
+        });
     }
-    let answer = fseid::read(v);
-    let Ok(seid) = answer else {
-        return refused(answer, place, d);
-    };
-    Step::Next(Draft {
-        rows: d.rows,
-        seid: seid,
-        flags: d.flags,
-        noted: d.noted,
-        creates: d.creates,
-    })
+    let seid = answer_at(fseid::read(v), types::FSEID, place)?;
+    Ok(Draft { seid, ..d })
 }
 
 // The flags 186 at a place, which may come once.
-fn read_flags(v: &[u8], place: usize, d: Draft) -> Step
+fn read_flags(v: &[u8], place: usize, d: Draft) -> Result<Draft, Fault>
     ensures { Passes (flags_read place v.now) d result }
 {
     if d.flags != 0 {
-        return Step::Fault(causes::INCORRECT, types::SESSION_FLAGS, place);
+        return Err(Fault {
+            cause: causes::INCORRECT,
+            kind: types::SESSION_FLAGS,
+            place,
+        });
     }
     if v.len() < 1 {
-        return Step::Fault(causes::WRONG_LENGTH, types::SESSION_FLAGS, place);
+        return Err(Fault {
+            cause: causes::WRONG_LENGTH,
+            kind: types::SESSION_FLAGS,
+            place,
+        });
     }
-    Step::Next(Draft {
-        rows: d.rows,
-        seid: d.seid,
-        flags: 1 + (v[0] % 2) as u64,
-        noted: d.noted,
-        creates: d.creates,
-    })
+    let flags = 1 + (v[0] % 2) as u64;
+    Ok(Draft { flags, ..d })
 }
 
 // Whether an element of type kind is acted on at the top of a message.
@@ -113,13 +92,7 @@ fn is_acted(message: u64, kind: u64) -> bool
 fn note(d: Draft) -> Draft
     ensures { result ≡ with_note d }
 {
-    Draft {
-        rows: d.rows,
-        seid: d.seid,
-        flags: d.flags,
-        noted: true,
-        creates: d.creates,
-    }
+    Draft { noted: true, ..d }
 }
 
 // The element of type kind and value v at a place of the message, whose elements are s; nodes are the node types met.
@@ -132,24 +105,24 @@ fn read_element(
     nodes: &mut [u64],
     words: &mut [u64],
     d: Draft,
-) -> Step
+) -> Result<Draft, Fault>
     requires { Roomy d nodes.old words.old × (place + 4 + length v.now < 2 ^ 64) }
     ensures { Follows (element_at message (alone_in (elements body_place s.now)) kind place v.now) d nodes.old words.old result nodes.new words.new }
 {
     if !is_acted(message, kind) {
-        return Step::Next(d);
+        return Ok(d);
     }
     match kind {
         types::FSEID => read_seid(v, place, d),
         types::SESSION_FLAGS => read_flags(v, place, d),
         types::FQCSID => crate::row::read_csid(s, v, message, place, nodes, words, d),
-        types::UPDATE_ENDPOINT => Step::Next(note(d)),
+        types::UPDATE_ENDPOINT => Ok(note(d)),
         _ => crate::row::read_group(v, kind, place, words, d),
     }
 }
 
 // Reads the elements s of a message, which start at octet 16: the first fault, or what they ask for.
-pub(crate) fn read_elements(s: &[u8], message: u64, words: &mut [u64]) -> Step
+pub(crate) fn read_elements(s: &[u8], message: u64, words: &mut [u64]) -> Result<Draft, Fault>
     requires { Enough s.now words.old }
     ensures { AllRead (elements_read message (alone_in (elements body_place s.now)) (elements body_place s.now) empty_draft) result words.new }
 {
@@ -163,16 +136,11 @@ pub(crate) fn read_elements(s: &[u8], message: u64, words: &mut [u64]) -> Step
     };
     let mut rest = s;
     let mut at = 16;
-    loop {
-        let First::Element(kind, end) = frame::first_of(rest) else {
-            return Step::Next(d);
-        };
-        let step = read_element(s, &rest[4..end], message, kind, at, &mut nodes, words, d);
-        let Step::Next(next) = step else {
-            return step;
-        };
-        d = next;
-        rest = &rest[end..];
-        at += end;
+    while let Some(element) = frame::first_of(rest) {
+        let v = &rest[4..element.end];
+        d = read_element(s, v, message, element.kind, at, &mut nodes, words, d)?;
+        rest = &rest[element.end..];
+        at += element.end;
     }
+    Ok(d)
 }

@@ -9,8 +9,8 @@ ghost use Rattle.frame.specs.HeaderOf.{SessionHeader};
 ghost use Rattle.request.specs.Requests.{RoomFor, Read};
 
 use format::{causes, kinds, types};
-use frame::Framing;
-use items::{Draft, Step};
+use items::Draft;
+use reading::Fault;
 
 pub mod items;
 pub mod row;
@@ -23,14 +23,6 @@ pub struct Plan {
     pub seid: u64,
     pub restoring: bool,
     pub noted: bool,
-}
-
-// What reading a request gives.
-#[derive(Clone, Copy)]
-pub enum Reading {
-    // The first fault of stages 2 and 3: the cause, the type at fault, and its place in the message.
-    Fault(u64, u64, usize),
-    Whole(Plan),
 }
 
 // The plan of what was read, with an SEID.
@@ -56,33 +48,36 @@ fn lacks_pdr(d: Draft) -> bool
 }
 
 // The end of a message: what it lacks, or its plan.
-fn conclude(message: u64, d: Draft) -> Reading
+fn conclude(message: u64, d: Draft) -> Result<Plan, Fault>
     ensures { result ≡ concluded message d }
 {
     if message != kinds::ESTABLISHMENT {
-        return Reading::Whole(plan_of(d, 0));
+        return Ok(plan_of(d, 0));
     }
     if lacks_pdr(d) {
-        return Reading::Fault(causes::MANDATORY_MISSING, types::CREATE_PDR, 0);
+        return Err(Fault {
+            cause: causes::MANDATORY_MISSING,
+            kind: types::CREATE_PDR,
+            place: 0,
+        });
     }
     if d.seid == 0 {
-        return Reading::Fault(causes::MANDATORY_MISSING, types::FSEID, 0);
+        return Err(Fault {
+            cause: causes::MANDATORY_MISSING,
+            kind: types::FSEID,
+            place: 0,
+        });
     }
-    Reading::Whole(plan_of(d, d.seid))
+    Ok(plan_of(d, d.seid))
 }
 
-// Reads a message whose header is allowed and has a SEID.
-pub fn read_request(msg: &[u8], words: &mut [u64]) -> Reading
+// Reads a message whose header is allowed and has a SEID: its plan, or the first fault of stages 2 and 3.
+pub fn read_request(msg: &[u8], words: &mut [u64]) -> Result<Plan, Fault>
     requires { SessionHeader msg.now × (length msg.now ≤ max_message) × RoomFor (length msg.now - 16) words.old }
     ensures { Read msg.now result words.new }
 {
-    if let Framing::Fault(kind, place) = frame::frame_fault(msg) {
-        return Reading::Fault(causes::WRONG_LENGTH, kind, place);
-    }
+    frame::frame_fault(msg)?;
     let message = octets::read(msg, 1, 1);
-    let step = items::read_elements(&msg[16..], message, words);
-    match step {
-        Step::Fault(cause, kind, place) => Reading::Fault(cause, kind, place),
-        Step::Next(d) => conclude(message, d),
-    }
+    let d = items::read_elements(&msg[16..], message, words)?;
+    conclude(message, d)
 }

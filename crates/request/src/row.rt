@@ -6,13 +6,13 @@ ghost use Rattle.octets.specs.Lists.{member};
 ghost use Rattle.rules.specs.Message.{modification, body_place, elements};
 ghost use Rattle.rules.specs.Reading.{alone_in, csid_read};
 ghost use Rattle.plan.specs.Rows.{row_width};
-ghost use Rattle.request.specs.Items.{group_types, group_at, Puts, Follows, Roomy, with_row, verdict_step};
-ghost use Rattle.request.specs.Csids.{csid_count_fits, bare_csid, csid_words, csid_taken, csid_refusal};
+ghost use Rattle.request.specs.Items.{group_types, group_at, Puts, Follows, Roomy, with_row};
+ghost use Rattle.request.specs.Csids.{csid_count_fits, bare_csid, csid_words, csid_taken};
 
-use crate::items::{Draft, Step};
+use crate::items::Draft;
 use format::{causes, kinds, types, words};
-use fqcsid::{Answer, FqCsid};
-use reading::Verdict;
+use fqcsid::FqCsid;
+use reading::{Fault, answer_at};
 
 // Writes the words of a row at index at.
 fn put_words(words: &mut [u64], at: usize, row: &[u64])
@@ -31,47 +31,29 @@ fn with_row(d: Draft, creates: bool) -> Draft
     requires { d.rows ≤ 225 }
     ensures { result ≡ with_row creates d }
 {
-    if creates {
-        return Draft {
-            rows: d.rows + 1,
-            seid: d.seid,
-            flags: d.flags,
-            noted: d.noted,
-            creates: true,
-        };
-    }
     Draft {
         rows: d.rows + 1,
-        seid: d.seid,
-        flags: d.flags,
-        noted: d.noted,
-        creates: d.creates,
+        creates: creates || d.creates,
+        ..d
     }
 }
 
 // A group of type kind with the value v at a place, read once into its row.
-pub(crate) fn read_group(v: &[u8], kind: u64, place: usize, words: &mut [u64], d: Draft) -> Step
+pub(crate) fn read_group(
+    v: &[u8],
+    kind: u64,
+    place: usize,
+    words: &mut [u64],
+    d: Draft,
+) -> Result<Draft, Fault>
     requires { (member kind group_types ≡ true) × (row_width * d.rows + row_width ≤ length words.old) × (d.rows ≤ 225) × (place + 4 + length v.now < 2 ^ 64) }
     ensures { Puts (group_at kind place v.now) d words.old result words.new }
 {
     let mut row = [0u64; format::ROW];
-    let read = reading::members::read_group(v, kind, place, &mut row);
-    let Verdict::Fine = read else {
-        return refused(read, d);
-    };
+    reading::members::read_group(v, kind, place, &mut row)?;
     row[words::TAG] = kind;
     put_words(words, format::ROW * d.rows, &row);
-    Step::Next(with_row(d, kind == types::CREATE_PDR))
-}
-
-// The refusal in a verdict, if it is one.
-fn refused(verdict: Verdict, d: Draft) -> Step
-    ensures { result ≡ verdict_step d verdict }
-{
-    let Verdict::Refused(cause, kind, place) = verdict else {
-        return Step::Next(d);
-    };
-    Step::Fault(cause, kind, place)
+    Ok(with_row(d, kind == types::CREATE_PDR))
 }
 
 // An FQ-CSID as the words of a row: 1 sets a node type's, 2 removes it, 3 is of null length.
@@ -157,16 +139,6 @@ fn is_count_allowed(message: u64, count: u64) -> bool
     }
 }
 
-// The refusal in an answer on an FQ-CSID at a place, if it is one.
-fn csid_refused(answer: Answer, place: usize, d: Draft) -> Step
-    ensures { result ≡ csid_refusal place d answer }
-{
-    let Err(refusal) = answer else {
-        return Step::Next(d);
-    };
-    Step::Fault(element::cause_of(refusal), types::FQCSID, place)
-}
-
 // An FQ-CSID of value v at a place of the message, whose elements are s, read once: into its row, and its node type into those that were met.
 pub(crate) fn read_csid(
     s: &[u8],
@@ -176,24 +148,29 @@ pub(crate) fn read_csid(
     nodes: &mut [u64],
     words: &mut [u64],
     d: Draft,
-) -> Step
+) -> Result<Draft, Fault>
     requires { Roomy d nodes.old words.old }
     ensures { Follows (csid_read message (alone_in (elements body_place s.now)) place v.now) d nodes.old words.old result nodes.new words.new }
 {
     if is_clearing(s, v, message) {
-        return Step::Next(put_csid(bare(3, 0), words, d));
+        return Ok(put_csid(bare(3, 0), words, d));
     }
-    let answer = fqcsid::read(v);
-    let Ok(x) = answer else {
-        return csid_refused(answer, place, d);
-    };
+    let x = answer_at(fqcsid::read(v), types::FQCSID, place)?;
     let node = x.node_type as usize;
     if !is_count_allowed(message, x.count) {
-        return Step::Fault(causes::INCORRECT, types::FQCSID, place);
+        return Err(Fault {
+            cause: causes::INCORRECT,
+            kind: types::FQCSID,
+            place,
+        });
     }
     if nodes[node] != 0 {
-        return Step::Fault(causes::INCORRECT, types::FQCSID, place);
+        return Err(Fault {
+            cause: causes::INCORRECT,
+            kind: types::FQCSID,
+            place,
+        });
     }
     nodes[node] = 1;
-    Step::Next(put_csid(csid_from(x), words, d))
+    Ok(put_csid(csid_from(x), words, d))
 }

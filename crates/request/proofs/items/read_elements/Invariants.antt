@@ -3,8 +3,8 @@ use lib.ListN.{length}
 use Rattle.request.proofs.TurnLaws.{Going}
 use Rattle.request.proofs.items.read_elements.Given as goal
 
-abbrev pub invariant-loop-kind : goal.invariant-loop-kind
-invariant-loop-kind l = Going l.message l.s l.initial.words l.at l.rest l.words l.nodes l.d
+abbrev pub invariant-loop-element : goal.invariant-loop-element
+invariant-loop-element l = Going l.message l.s l.initial.words l.at l.rest l.words l.nodes l.d
 
-abbrev pub decreases-loop-kind : goal.decreases-loop-kind
-decreases-loop-kind l = length l.rest
+abbrev pub decreases-loop-element : goal.decreases-loop-element
+decreases-loop-element l = length l.rest

@@ -5,5 +5,5 @@ use Rattle.request.proofs.row.with_row.Goals as goal
 pub returns-then-creates : goal.returns-then-creates
 returns-then-creates c = sym (rw c.if-creates.true)
 
-pub returns : goal.returns
-returns c = sym (rw c.if-creates.false)
+pub returns-else-creates : goal.returns-else-creates
+returns-else-creates c = sym (rw c.if-creates.false)
