@@ -22,12 +22,10 @@ use Rattle.laws.proofs.MessageLaws.{el}
 use Rattle.element.specs.Answers.{refusal_of}
 use Rattle.fqcsid.specs.Meaning.{fqcsid_tests, fqcsid_meant, fqcsid_of, fqcsid_answer}
 use Rattle.element.specs.declared.Refusal as codes
-use Rattle.fqcsid.specs.declared.Answer as code
-use Rattle.fqcsid.specs.declared.Answer.TheVariants as answers
 use Rattle.fqcsid.specs.declared.FqCsid.{FqCsid}
-use Rattle.reading.specs.Verdicts.{numbered, outcome}
-use Rattle.reading.specs.declared.Verdict.{Verdict}
-use Rattle.reading.specs.declared.Verdict.TheVariants.{Fine, Refused}
+use Rattle.std.specs.Prelude.{Result, Ok, Err}
+use Rattle.reading.specs.declared.Fault.{Fault}
+use Rattle.reading.specs.Verdicts.{numbered, fault, fine, outcome}
 use Rattle.sets.specs.Listed.{blank, gotten, list_step, listed_in, lists_in, Sized}
 use Rattle.frame.proofs.Front.{Front, behind}
 
@@ -49,13 +47,13 @@ head_list t p v es = rw (acted t) (one (eqb t ie.fqcsid) (listed_read p v) (list
     one false r q = refl
 
 -- none
-pub end_list : (es : List Element) → es ≡ [] → outcome Fine tt ≡ numbered (blank (list_read es))
+pub end_list : (es : List Element) → es ≡ [] → outcome fine tt ≡ numbered (blank (list_read es))
 unfolding list_read
 end_list es e = rw e
 
 -- ---- the fault of an element
 
-pub skipped_fine : (t p : ℕ) (v : List ℕ) → (t ≡ ie.fqcsid → ⊥) → outcome Fine tt ≡ numbered (list_step t p v)
+pub skipped_fine : (t p : ℕ) (v : List ℕ) → (t ≡ ie.fqcsid → ⊥) → outcome fine tt ≡ numbered (list_step t p v)
 unfolding list_step
 skipped_fine t p v n = rw (ne_eqb t ie.fqcsid n)
 
@@ -64,11 +62,11 @@ module _ (t p : ℕ) (v : List ℕ) (is : t ≡ ie.fqcsid) where
   unfolding list_step
   step_is = rw (eq-eqb t ie.fqcsid is)
 
-  pub refused_fault : (a : code.Answer) (q : codes.Refusal) {n : ℕ} → fqcsid_answer a ≡ some (read_fqcsid v) → a ≡ answers.Refused q → n ≡ cause_of (refusal_of q) → outcome (Refused n ie.fqcsid p) tt ≡ numbered (list_step t p v)
+  pub refused_fault : (a : Result FqCsid codes.Refusal) (q : codes.Refusal) {f : Fault} → fqcsid_answer a ≡ some (read_fqcsid v) → a ≡ Err q → f ≡ record { cause = cause_of (refusal_of q); kind = ie.fqcsid; place = p } → outcome {B = Unit {0}} (Err f) tt ≡ numbered (list_step t p v)
   unfolding listed_read
   refused_fault a q e h c = let k : some (refuse (refusal_of q)) ≡ some (read_fqcsid v) = sym (ap fqcsid_answer h) ∙ e in let j : refuse (refusal_of q) ≡ read_fqcsid v = cc in rw (step_is, c, ← j)
 
-  module _ (y : code.Answer) (x : FqCsid) (from : fqcsid_answer y ≡ some (read_fqcsid v)) (is-value : y ≡ answers.Value x) where
+  module _ (y : Result FqCsid codes.Refusal) (x : FqCsid) (from : fqcsid_answer y ≡ some (read_fqcsid v)) (is-value : y ≡ Ok x) where
     read : map_option value (fqcsid_of x) ≡ some (read_fqcsid v)
     read = sym (ap fqcsid_answer is-value) ∙ from
 
@@ -80,26 +78,26 @@ module _ (t p : ℕ) (v : List ℕ) (is : t ≡ ie.fqcsid) where
         go true h = sym cc
         go false h = let z : ◌≡◌ {A = ℕ} 0 1 = cc in absurd (omega arith)
 
-    pub none_fault : x.count ≡ 0 → outcome (Refused why.incorrect ie.fqcsid p) tt ≡ numbered (list_step t p v)
+    pub none_fault : x.count ≡ 0 → outcome {B = Unit {0}} (fault why.incorrect ie.fqcsid p) tt ≡ numbered (list_step t p v)
     unfolding listed_read csid_fields listable cause_of
     none_fault e = rw (step_is, value_read_lem _ refl, e)
 
-    pub some_fine : (x.count ≡ 0 → ⊥) → outcome Fine tt ≡ numbered (list_step t p v)
+    pub some_fine : (x.count ≡ 0 → ⊥) → outcome fine tt ≡ numbered (list_step t p v)
     unfolding listed_read listable csid_fields
     some_fine n = rw (step_is, value_read_lem _ refl) (go x.count n _ _ _ _)
       where
-        go : (m : ℕ) → (m ≡ 0 → ⊥) → (k : ℕ) (y z : List ℕ) (j : ℕ) → outcome Fine tt ≡ numbered (blank (pick (listable (csid_fields m k y z j)) (done (csid_fields m k y z j)) (refusal_at incorrect ie.fqcsid p)))
+        go : (m : ℕ) → (m ≡ 0 → ⊥) → (k : ℕ) (y z : List ℕ) (j : ℕ) → outcome fine tt ≡ numbered (blank (pick (listable (csid_fields m k y z j)) (done (csid_fields m k y z j)) (refusal_at incorrect ie.fqcsid p)))
         go zero h k y z j = absurd (h refl)
         go (suc m) h k y z j = refl
 
 -- ---- the walk
 
 -- a fault stops it, and where there is none it goes on
-pub stops : (x q : Reading (Unit {0})) (r : Verdict) {c t p : ℕ} → outcome r tt ≡ numbered x → r ≡ Refused c t p → outcome r tt ≡ numbered (and_then x (λ _. q))
+pub stops : (x q : Reading (Unit {0})) (r : Result (Unit {0}) Fault) {f : Fault} → outcome r tt ≡ numbered x → r ≡ Err f → outcome r tt ≡ numbered (and_then x (λ _. q))
 stops (faulty f) q r e h = e
 stops (done a) q r e h = let z : ◌≡◌ {A = ℕ} 0 1 = cc in absurd (omega arith)
 
-pub goes_on : (x q : Reading (Unit {0})) (r : Verdict) → outcome r tt ≡ numbered x → r ≡ Fine → and_then x (λ _. q) ≡ q
+pub goes_on : (x q : Reading (Unit {0})) (r : Result (Unit {0}) Fault) → outcome r tt ≡ numbered x → r ≡ fine → and_then x (λ _. q) ≡ q
 goes_on (faulty f) q r e h = let z : ◌≡◌ {A = ℕ} 0 1 = cc in absurd (omega arith)
 goes_on (done a) q r e h = refl
 
@@ -111,17 +109,17 @@ pub lists_none_lem : (s : List ℕ) → Lists s list_place s
 lists_none_lem s = record { placed = omega arith; same = refl }
 
 module _ {s : List ℕ} {at : ℕ} {rest : List ℕ} (l : Lists s at rest) where
-  pub lists_end : ((p : ℕ) → elements p rest ≡ []) → outcome Fine tt ≡ numbered (blank (list_read (elements list_place s)))
+  pub lists_end : ((p : ℕ) → elements p rest ≡ []) → outcome fine tt ≡ numbered (blank (list_read (elements list_place s)))
   lists_end nil = end_list (elements at rest) (nil at) ∙ ap (λ (x : Reading (Unit {0})). numbered x) (sym l.same)
 
   module _ {t e : ℕ} (f : Front rest t e) where
     whole : blank (list_read (elements list_place s)) ≡ and_then (list_step t at (take (e - 4) (drop 4 rest))) (λ _. blank (list_read (elements (at + e) (behind rest e))))
     whole = l.same ∙ ap (λ (es : List Element). blank (list_read es)) (f.cons at) ∙ head_list t at (take (e - 4) (drop 4 rest)) (elements (at + e) (behind rest e))
 
-    pub lists_stop : {r : Verdict} {c k p : ℕ} → outcome r tt ≡ numbered (list_step t at (take (e - 4) (drop 4 rest))) → r ≡ Refused c k p → outcome r tt ≡ numbered (blank (list_read (elements list_place s)))
-    lists_stop {r} h q = stops (list_step t at (take (e - 4) (drop 4 rest))) (blank (list_read (elements (at + e) (behind rest e)))) r h q ∙ ap (λ (x : Reading (Unit {0})). numbered x) (sym whole)
+    pub lists_stop : {r : Result (Unit {0}) Fault} {x : Fault} → outcome r tt ≡ numbered (list_step t at (take (e - 4) (drop 4 rest))) → r ≡ Err x → outcome {B = Unit {0}} (Err x) tt ≡ numbered (blank (list_read (elements list_place s)))
+    lists_stop {r} {x} h q = sym (ap (λ (z : Result (Unit {0}) Fault). outcome z tt) q) ∙ stops (list_step t at (take (e - 4) (drop 4 rest))) (blank (list_read (elements (at + e) (behind rest e)))) r h q ∙ ap (λ (x : Reading (Unit {0})). numbered x) (sym whole)
 
-    pub lists_on : {r : Verdict} → outcome r tt ≡ numbered (list_step t at (take (e - 4) (drop 4 rest))) → r ≡ Fine → Lists s (at + e) (take (length rest - e) (drop e rest))
+    pub lists_on : {r : Result (Unit {0}) Fault} → outcome r tt ≡ numbered (list_step t at (take (e - 4) (drop 4 rest))) → r ≡ fine → Lists s (at + e) (take (length rest - e) (drop e rest))
     lists_on {r} h q =
         record {
           placed = let p = l.placed in let x = f.high in rw (part_from e rest, length-drop) (omega arith);

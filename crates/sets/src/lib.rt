@@ -17,50 +17,41 @@ ghost use Rattle.sets.specs.Listed.{blank, gotten, list_step, listed_in, lists_i
 ghost use Rattle.rules.specs.Types as ie;
 
 use format::{causes, types};
-use fqcsid::Answer;
-use frame::First;
-use reading::Verdict;
+use reading::{Fault, answer_at};
 
 // ---- stage 3
 
 // The fault of an element of type kind with the value v at a place, if it has one: an FQ-CSID that is refused, or one with no CSID.
-fn element_fault(kind: u64, v: &[u8], place: usize) -> Verdict
+fn element_fault(kind: u64, v: &[u8], place: usize) -> Result<(), Fault>
     ensures { outcome result tt ≡ numbered (list_step kind place v.now) }
 {
     if kind != types::FQCSID {
-        return Verdict::Fine;
+        return Ok(());
     }
-    match fqcsid::read(v) {
-        Err(refusal) => {
-            Verdict::Refused(element::cause_of(refusal), types::FQCSID, place)
-        }
-        Ok(x) => {
-            if x.count == 0 {
-                return Verdict::Refused(causes::INCORRECT, types::FQCSID, place);
-            }
-            Verdict::Fine
-        }
+    let x = answer_at(fqcsid::read(v), types::FQCSID, place)?;
+    if x.count == 0 {
+        return Err(Fault {
+            cause: causes::INCORRECT,
+            kind: types::FQCSID,
+            place,
+        });
     }
+    Ok(())
 }
 
 // The first fault in the elements s of a set deletion, which start at octet 8.
-pub fn list_fault(s: &[u8]) -> Verdict
+pub fn list_fault(s: &[u8]) -> Result<(), Fault>
     requires { length s.now ≤ max_message }
     ensures { outcome result tt ≡ numbered (blank (list_read (elements list_place s.now))) }
 {
     let mut rest = s;
     let mut at = 8;
-    loop {
-        let First::Element(kind, end) = frame::first_of(rest) else {
-            return Verdict::Fine;
-        };
-        let verdict = element_fault(kind, &rest[4..end], at);
-        let Verdict::Fine = verdict else {
-            return verdict;
-        };
-        rest = &rest[end..];
-        at += end;
+    while let Some(element) = frame::first_of(rest) {
+        element_fault(element.kind, &rest[4..element.end], at)?;
+        rest = &rest[element.end..];
+        at += element.end;
     }
+    Ok(())
 }
 
 // ---- what an FQ-CSID covers
@@ -174,11 +165,8 @@ pub fn remove_listed(t: &mut [u8], peer: u32, s: &[u8])
     ensures { t.new ≡ encode (view_settings t.old) (keep (stays_session peer (gotten (list_read (elements list_place s.now)))) (view_sessions t.old)) }
 {
     let mut rest = s;
-    loop {
-        let First::Element(kind, end) = frame::first_of(rest) else {
-            return;
-        };
-        remove_by(t, peer, kind, &rest[4..end]);
-        rest = &rest[end..];
+    while let Some(element) = frame::first_of(rest) {
+        remove_by(t, peer, element.kind, &rest[4..element.end]);
+        rest = &rest[element.end..];
     }
 }

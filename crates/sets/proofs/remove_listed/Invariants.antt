@@ -3,8 +3,8 @@ use lib.ListN.{length}
 use Rattle.sets.proofs.GoneLaws.{Left}
 use Rattle.sets.proofs.remove_listed.Given as goal
 
-abbrev pub invariant-loop-kind : goal.invariant-loop-kind
-invariant-loop-kind l = Left l.initial.t l.peer l.s l.t l.rest
+abbrev pub invariant-loop-element : goal.invariant-loop-element
+invariant-loop-element l = Left l.initial.t l.peer l.s l.t l.rest
 
-abbrev pub decreases-loop-kind : goal.decreases-loop-kind
-decreases-loop-kind l = length l.rest
+abbrev pub decreases-loop-element : goal.decreases-loop-element
+decreases-loop-element l = length l.rest
