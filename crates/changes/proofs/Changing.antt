@@ -1,5 +1,6 @@
 -- An establishment or a modification from its reading on.
 -- Assumes nothing.
+use Rattle.std.specs.Prelude.{Some, Result, Ok, Err}
 use mathlib.Core.Path.{◌≡◌, refl, sym, ap, ◌∙◌, subst}
 use mathlib.Core.Bool.{false}
 use mathlib.Core.Option.{Option, none, some}
@@ -18,13 +19,11 @@ use Rattle.plan.specs.Rows.{row_width, rows_of, request_in}
 use Rattle.stages.proofs.VerdictLaws.{judge_plain}
 use Rattle.request.specs.Requests.{refused, whole, result_of, from_framing, reading_of, meant, rows_left, Read}
 use Rattle.request.specs.declared.Plan.{Plan}
-use Rattle.request.specs.declared.Reading.{Reading}
-use Rattle.request.specs.declared.Reading.TheVariants as reading
+use Rattle.reading.specs.declared.Fault.{Fault}
 use Rattle.unit.specs.Meaning.{settings_of}
 use Rattle.unit.proofs.FieldLaws.{limit_is}
 use Rattle.stages.specs.declared.Known.{Known}
 use Rattle.stages.specs.declared.Told.{Told}
-use Rattle.reply.specs.declared.Offending.TheVariants.{Element}
 use Rattle.changes.specs.Answers.{OnlyNull, Answers, Replies, Refusing}
 use Rattle.changes.specs.Steps.{Changing, Readable, Fetching, told_of, Fetched, Entered}
 use Rattle.session.specs.declared.Place.{Place}
@@ -49,12 +48,21 @@ faultless msg r = by_frame (frame_fault msg) refl
     by_frame none e h = record { framed = e; fine = by_read (read msg) h }
     by_frame (some u) e h = let z : ◌≡◌ {A = ℕ} 0 1 = cc in absurd (omega arith)
 
-module _ {k : Known} {t msg out : List ℕ} {at : ℕ} (ch : Changing k t msg out at) {r : Reading} {plan : List ℕ} (given : Read msg r plan) where
+module _ {k : Known} {t msg out : List ℕ} {at : ℕ} (ch : Changing k t msg out at) {r : Result Plan Fault} {plan : List ℕ} (given : Read msg r plan) where
   -- a fault
-  module _ {c e p : ℕ} (is : r ≡ reading.Fault c e p) where
+  module _ {fault : Fault} (is : r ≡ Err fault) where
+    abbrev c : ℕ
+    c = fault.cause
+
+    abbrev e : ℕ
+    e = fault.kind
+
+    abbrev p : ℕ
+    p = fault.place
+
     pub fault_refuses : Faulted t k.share.peer msg out c e p
     unfolding reading_of from_framing
-    fault_refuses = by_frame (frame_fault msg) refl (sym (ap (λ (x : Reading). meant x plan) is) ∙ given.result)
+    fault_refuses = by_frame (frame_fault msg) refl (sym (ap (λ (x : Result Plan Fault). meant x plan) is) ∙ given.result)
       where
         by_read : (g : rules.Reading Request) → read msg ≡ g → frame_fault msg ≡ none → refused c e p ≡ result_of g → Faulted t k.share.peer msg out c e p
         by_read (done y) q f h = let z : ◌≡◌ {A = ℕ} 0 1 = cc in absurd (omega arith)
@@ -72,19 +80,19 @@ module _ {k : Known} {t msg out : List ℕ} {at : ℕ} (ch : Changing k t msg ou
             let ep : p ≡ u.place = cc in
             rw (ec, ek, ep) (not_framed_refuses t k.share.peer msg out ch.live u q)
 
-    pub fault_asks : Refusing t k.share.peer msg out c (Element e)
+    pub fault_asks : Refusing t k.share.peer msg out c (Some e)
     fault_asks = fault_refuses.refusing
 
     pub fault_replies : {used : ℕ} {out' : List ℕ} → Answers t k.share.peer msg out used out' t → Replies t k.share.peer msg out used p out' t
     fault_replies a = replies_fault fault_refuses a
 
   -- none
-  module _ {w : Plan} (is : r ≡ reading.Whole w) where
+  module _ {w : Plan} (is : r ≡ Ok w) where
     abbrev request : Request
     request = request_in w.seid w.restoring w.noted (rows_of w.rows plan)
 
     is_whole : whole request ≡ reading_of msg
-    is_whole = sym (ap (λ (x : Reading). meant x plan) is) ∙ given.result
+    is_whole = sym (ap (λ (x : Result Plan Fault). meant x plan) is) ∙ given.result
 
     none_at_fault : Faultless msg request
     none_at_fault = faultless msg request is_whole
@@ -98,7 +106,7 @@ module _ {k : Known} {t msg out : List ℕ} {at : ℕ} (ch : Changing k t msg ou
     no_fault = ap fault_in none_at_fault.fine
 
     rows_within : w.rows * row_width ≤ length plan
-    rows_within = let h : row_width * w.rows ≤ length plan = subst (λ (x : Reading). row_width * rows_left x ≤ length plan) is given.room in omega arith
+    rows_within = let h : row_width * w.rows ≤ length plan = subst (λ (x : Result Plan Fault). row_width * rows_left x ≤ length plan) is given.room in omega arith
 
     readable : (place : Place) → Readable k (told_of w place) t msg out plan
     readable place =
@@ -109,7 +117,7 @@ module _ {k : Known} {t msg out : List ℕ} {at : ℕ} (ch : Changing k t msg ou
           verdict = read_through (view_settings t) k.share.peer (view_sessions t) msg ch.live none_at_fault.framed no_fault;
           means = is_read;
           rows = rows_within;
-          only_null = subst (λ (x : Reading). OnlyNull (rows_of (rows_left x) plan)) is given.only_null;
+          only_null = subst (λ (x : Result Plan Fault). OnlyNull (rows_of (rows_left x) plan)) is given.only_null;
         }
 
     -- the rows are the request's

@@ -1,5 +1,6 @@
 -- The verdict where stage 2 or 3 refuses.
 -- Assumes nothing.
+use Rattle.std.specs.Prelude.{Some}
 use mathlib.Core.Path.{◌≡◌, sym, ap, ◌∙◌}
 use mathlib.Core.Option.{none, some}
 use mathlib.Core.List.{List}
@@ -11,7 +12,6 @@ use Rattle.rules.specs.Message.{Spot, frame_fault}
 use Rattle.rules.specs.Stages as rules
 use Rattle.rules.specs.Reading.{Fault, faulty, read, fault_in, read_fault}
 use Rattle.rules.specs.Causes as why
-use Rattle.reply.specs.declared.Offending.TheVariants.{Element}
 use Rattle.changes.specs.Answers.{Live, verdict_on, Answers, Replies, Refusing}
 use Rattle.changes.proofs.VerdictSteps.{not_framed, not_read}
 
@@ -25,7 +25,7 @@ small_cause incorrect = (omega arith, λ e. omega arith)
 
 -- the verdict of a fault: what refusing asks, and its place
 pub record Faulted (t : List ℕ) (who : ℕ) (msg out : List ℕ) (c k p : ℕ) : Type 0 where
-  pub refusing : Refusing t who msg out c (Element k)
+  pub refusing : Refusing t who msg out c (Some k)
   pub placed : p ≡ (verdict_on t who msg).place
 
 -- the reply and the place

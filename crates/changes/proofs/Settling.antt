@@ -1,5 +1,6 @@
 -- Stages 4 to 6 of a request that was read: what the code's cause means.
 -- Assumes nothing.
+use Rattle.std.specs.Prelude.{None}
 use mathlib.Core.Path.{◌≡◌, sym, ap, ◌∙◌, subst}
 use mathlib.Core.Bool.{false}
 use mathlib.Core.List.{List}
@@ -25,7 +26,6 @@ use Rattle.pool.proofs.AddressLaws.{address_map_means}
 use Rattle.plan.specs.Rows.{rows_of, request_in}
 use Rattle.plan.specs.RowRules.{request_of}
 use Rattle.unit.specs.Meaning.{settings_of}
-use Rattle.reply.specs.declared.Offending.TheVariants.{Nothing}
 use Rattle.stages.specs.Rules.{Slot, Gone, AtEntry}
 use Rattle.stages.specs.declared.Known.{Known}
 use Rattle.stages.specs.declared.Told.{Told}
@@ -98,7 +98,7 @@ module _ {k : Known} {q : Told} {t msg out plan words ips slot stored : List ℕ
     same_verdict : verdict_on t who msg ≡ plain c
     same_verdict = same_judgement ∙ judge_plain k.kind (settings_of k.u) who (view_sessions t) (view_session slot) request ∙ ap plain (sym is)
 
-    pub settle_refuses : (c ≡ 1 → ⊥) → Refusing t k.share.peer msg out c Nothing
+    pub settle_refuses : (c ≡ 1 → ⊥) → Refusing t k.share.peer msg out c None
     settle_refuses o =
         record {
           place = 0;

@@ -1,6 +1,6 @@
 -- What the functions that answer a request know at entry, and what they leave: the reply and the table of the rules' verdict.
 -- Assumes nothing.
-use Rattle.std.specs.Prelude.{ℕ, ◌*◌, ◌≤◌, ◌<◌, ◌^◌, ◌≡◌, true, false, List, [], T, eqb, length}
+use Rattle.std.specs.Prelude.{ℕ, ◌*◌, ◌≤◌, ◌<◌, ◌^◌, ◌≡◌, true, false, List, [], T, eqb, length, Option}
 use Rattle.octets.specs.Choice.{pick}
 use Rattle.octets.specs.Octets.{octets, put}
 use Rattle.octets.specs.Lists.{any, collect}
@@ -21,7 +21,6 @@ use Rattle.session.specs.Places.{looked_up}
 use Rattle.unit.specs.Meaning.{settings_of}
 use Rattle.stages.specs.declared.Known.{Known}
 use Rattle.stages.specs.declared.Told.{Told}
-use Rattle.reply.specs.declared.Offending.{Offending}
 use Rattle.reply.specs.Naming.{refusal}
 use Rattle.reply.specs.Parts.{WithSeid}
 
@@ -63,7 +62,7 @@ abbrev pub placed_at : ℕ → Verdict → Verdict
 placed_at p v = record { cause = v.cause; offending = v.offending; place = p }
 
 -- the verdict is a refusal, by its cause and the element that it names, at any place
-pub record Refusing (t : List ℕ) (who : ℕ) (msg out : List ℕ) (c : ℕ) (o : Offending) : Type 0 where
+pub record Refusing (t : List ℕ) (who : ℕ) (msg out : List ℕ) (c : ℕ) (o : Option ℕ) : Type 0 where
   pub place : ℕ
   pub verdict : verdict_on t who msg ≡ placed_at place (refusal c o)
   pub small : c < 256

@@ -17,8 +17,7 @@ ghost use Rattle.changes.specs.Answers.{Asked, Answers, Replies, Refusing, Accep
 ghost use Rattle.changes.specs.Steps.{Counted, Giving, Given, Fetching, told_of, Fetched, Entered, Readable, Changing};
 
 use format::{causes, kinds};
-use reply::Offending;
-use request::{Plan, Reading};
+use request::Plan;
 use session::Place;
 use stages::{Known, Told};
 use unit::Settings;
@@ -36,7 +35,7 @@ pub fn refuse(
     k: Known,
     msg: &[u8],
     cause: u64,
-    offending: Offending,
+    offending: Option<u64>,
     out: &mut [u8],
 ) -> usize
     requires { Asked t.now k.share.peer msg.now out.old × Refusing t.now k.share.peer msg.now out.old cause offending × (settings_of k.u ≡ view_settings t.now) }
@@ -152,7 +151,7 @@ fn settle(
     let n = stages::session::removed(slot, plan, q.rows, &mut gone);
     let cause = stages::judge(t, k, words, ips, slot, &gone[..n], plan, q);
     if cause != causes::ACCEPTED {
-        return refuse(t, k, msg, cause, Offending::Nothing, out);
+        return refuse(t, k, msg, cause, None, out);
     }
     accept(t, k, words, ips, msg, slot, &gone[..n], plan, q, out)
 }
@@ -171,23 +170,19 @@ fn change_with(
     requires { Changing k t.old msg.now out.old p × Counted k t.old words.now ips.now × RoomFor (length msg.now - 16) plan.old }
     ensures { Replies t.old k.share.peer msg.now out.old result.used result.place out.new t.new }
 {
-    let reading = request::read_request(msg, plan);
-    match reading {
-        Reading::Fault(cause, element, place) => {
-            let used = refuse(t, k, msg, cause, Offending::Element(element), out);
-            return Replied {
-                used: used,
-                place: place,
-            };
+    match request::read_request(msg, plan) {
+        Err(fault) => {
+            let used = refuse(t, k, msg, fault.cause, Some(fault.kind), out);
+            Replied {
+                used,
+                place: fault.place,
+            }
         }
-        Reading::Whole(read) => {
+        Ok(read) => {
             let mut slot = [0u8; format::SLOT];
             let told = enter(t, k, read, p, &mut slot);
             let used = settle(t, k, words, ips, msg, &mut slot, plan, told, out);
-            return Replied {
-                used: used,
-                place: 0,
-            };
+            Replied { used, place: 0 }
         }
     }
 }

@@ -1,5 +1,6 @@
 -- Stage 1: the session that a request names.
 -- Assumes nothing.
+use Rattle.std.specs.Prelude.{None}
 use mathlib.Core.Path.{◌≡◌, sym, ap, ◌∙◌}
 use mathlib.Core.Bool.{Bool, true, false, not}
 use mathlib.Core.List.{List}
@@ -21,7 +22,6 @@ use Rattle.unit.specs.declared.Settings.{Settings as Unit}
 use Rattle.unit.specs.Meaning.{settings_of}
 use Rattle.unit.proofs.FieldLaws.{limit_is}
 use Rattle.stages.specs.declared.Known.{Known}
-use Rattle.reply.specs.declared.Offending.TheVariants.{Nothing}
 use Rattle.changes.specs.Answers.{Asked, Live, verdict_on, Answers, Replies, Refusing}
 use Rattle.changes.specs.Steps.{Changing}
 use Rattle.changes.proofs.VerdictSteps.{no_session_lem}
@@ -67,7 +67,7 @@ module _ (k : Known) {t msg out : List ℕ} (a : Asked t k.share.peer msg out) (
           no_session_lem (view_settings t) who (view_sessions t) msg
           (unknown_is who (view_sessions t) msg false a.named (λ z. o (is ∙ z)) (live_absent t a.table who (header_seid msg) p k.u.limit r room at_header e))
 
-      pub absent_refuses : Refusing t k.share.peer msg out why.no_session Nothing
+      pub absent_refuses : Refusing t k.share.peer msg out why.no_session None
       absent_refuses = record { place = 0; verdict = none_live; small = omega arith; other = λ z. omega arith }
 
       pub absent_replies : {used : ℕ} {out' : List ℕ} → Answers t k.share.peer msg out used out' t → Replies t k.share.peer msg out used 0 out' t

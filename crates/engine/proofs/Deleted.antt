@@ -36,12 +36,12 @@ use Rattle.octets.specs.Lists.{keep}
 use Rattle.created.specs.Groups.{reports_of, all_reports}
 use Rattle.writing.specs.Placed.{written}
 use Rattle.frame.specs.Framed.{framing_fault}
-use Rattle.frame.specs.declared.Framing.{Framing}
-use Rattle.frame.specs.declared.Framing.TheVariants as framings
 use Rattle.engine.proofs.Faults.{framed}
 use Rattle.changes.specs.Answers.{Asked, Live, verdict_on, Answers, Replies}
 use Rattle.changes.proofs.VerdictSteps.{read_through}
 use Rattle.engine.proofs.Deleting.{deletion_fine, deletion_empty, no_reports_lem, accepted_empty}
+use Rattle.std.specs.Prelude.{None, Some, Result, Ok, Err}
+use Rattle.frame.specs.declared.Spot.{Spot}
 
 -- the table without the session
 deleted_table : (s : Settings) → T (settings_allowed s) → (who : ℕ) (m : Sessions) → T (sessions_allowed s m) → (msg : List ℕ) → eqb (kind_of msg) set_deletion ≡ false → eqb (kind_of msg) deletion ≡ true
@@ -105,9 +105,9 @@ module _ (u : Unit) {t : List ℕ} {who : ℕ} {msg out : List ℕ} (a : Asked t
   deleted_room = rw (limit_is u (view_settings t) is) (found_room (table_area (view_settings t).limit) t (key_for who (header_seid msg)) p there).1
 
 -- from what the code's readers answer
-pub deleted_through : (u : Unit) (t : List ℕ) (who : ℕ) (msg out : List ℕ) (f : Framing) (p used : ℕ) (out' t' : List ℕ) → Asked t who msg out → Live t who msg → kind_of msg ≡ deletion
+pub deleted_through : (u : Unit) (t : List ℕ) (who : ℕ) (msg out : List ℕ) (f : Result (Prim.Unit {0}) Spot) (p used : ℕ) (out' t' : List ℕ) → Asked t who msg out → Live t who msg → kind_of msg ≡ deletion
     → place_in (table_area (view_settings t).limit) (key_for who (header_seid msg)) t ≡ Found p → settings_of u ≡ view_settings t
-    → framing_fault f ≡ frame_fault msg → f ≡ framings.Framed
+    → framing_fault f ≡ frame_fault msg → f ≡ Ok tt
     → (used, out') ≡ written (reply (settings_of u) who msg 0 (plain why.accepted) (all_reports [])) out → t' ≡ removed_in (table_area u.limit) p t → Replies t who msg out used 0 out' t'
 deleted_through u t who msg out f p used out' t' a live del there is fe fq w d =
     let fr = framed t who msg out live f fe fq in

@@ -27,30 +27,28 @@ use Rattle.laws.proofs.PeerLaws.{PeersKept, peers_kept_lem}
 use Rattle.laws.proofs.KeptRules.{table_kept}
 use Rattle.laws.proofs.HeaderLaws.{unnamed_sets}
 use Rattle.frame.specs.Framed as frame
-use Rattle.frame.specs.declared.Framing.{Framing}
-use Rattle.frame.specs.declared.Framing.TheVariants as framings
-use Rattle.reading.specs.Verdicts.{stopped, got, numbered, outcome}
-use Rattle.reading.specs.declared.Verdict as code
-use Rattle.reading.specs.declared.Verdict.TheVariants.{Fine, Refused}
+use Rattle.reading.specs.Verdicts.{stopped, got, numbered, outcome, fine}
 use Rattle.writing.specs.Placed.{written}
 use Rattle.reply.specs.Parts.{Listing}
 use Rattle.reply.specs.Naming.{refusal}
-use Rattle.reply.specs.declared.Offending.TheVariants.{Nothing, Element}
 use Rattle.sets.specs.Listed.{blank, gotten}
 use Rattle.changes.specs.Answers.{Live, verdict_on, Answers, Replies, Refusing}
 use Rattle.engine.specs.Steps.{AskedList}
 use Rattle.changes.proofs.VerdictSteps.{read_through}
 use Rattle.engine.proofs.Faults.{framed, read_fine, frame_asks, frame_replies, then_asks, then_replies}
 use Rattle.engine.proofs.Deleting.{listing_empty, no_reports_lem, accepted_empty}
+use Rattle.std.specs.Prelude.{None, Some, Result, Ok, Err}
+use Rattle.frame.specs.declared.Spot.{Spot}
+use Rattle.reading.specs.declared.Fault.{Fault}
 
 -- a fault told without a value is the same fault
-same_fault : {A : Type 0} (v : code.Verdict) (u : Unit {0}) (a : A) (c k p : ℕ) → outcome v u ≡ stopped c k p → outcome v a ≡ stopped c k p
-same_fault Fine u a c k p h = let z : ◌≡◌ {A = ℕ} 0 1 = cc in absurd (omega arith)
-same_fault (Refused x y w) u a c k p h = let e : x ≡ c = cc in let f : y ≡ k = cc in let g : w ≡ p = cc in λ i. stopped (e i) (f i) (g i)
+same_fault : {A : Type 0} (v : Result (Unit {0}) Fault) (u : Unit {0}) (a : A) (c k p : ℕ) → outcome v u ≡ stopped c k p → outcome v a ≡ stopped c k p
+same_fault (Ok _) u a c k p h = let z : ◌≡◌ {A = ℕ} 0 1 = cc in absurd (omega arith)
+same_fault (Err y) u a c k p h = let e : y.cause ≡ c = cc in let f : y.kind ≡ k = cc in let g : y.place ≡ p = cc in λ i. stopped (e i) (f i) (g i)
 
-same_value : {A : Type 0} (v : code.Verdict) (u : Unit {0}) (a : A) → outcome v u ≡ got u → outcome v a ≡ got a
-same_value Fine u a h = refl
-same_value (Refused x y w) u a h = let z : ◌≡◌ {A = ℕ} 0 1 = cc in absurd (omega arith)
+same_value : {A : Type 0} (v : Result (Unit {0}) Fault) (u : Unit {0}) (a : A) → outcome v u ≡ got u → outcome v a ≡ got a
+same_value (Ok _) u a h = refl
+same_value (Err y) u a h = let z : ◌≡◌ {A = ℕ} 0 1 = cc in absurd (omega arith)
 
 module _ (t : List ℕ) (who : ℕ) (msg : List ℕ) (l : Listing msg) where
   -- it names no session
@@ -66,7 +64,7 @@ module _ (t : List ℕ) (who : ℕ) (msg : List ℕ) (l : Listing msg) where
   unfolding reading.read top_read body header_length
   read_is = rw (l.kind, l.seid, part_from 8 msg)
 
-  pub list_read_lem : (v : code.Verdict) → outcome v tt ≡ numbered (blank lists) → outcome v (read_request msg) ≡ numbered (reading.read msg)
+  pub list_read_lem : (v : Result (Unit {0}) Fault) → outcome v tt ≡ numbered (blank lists) → outcome v (read_request msg) ≡ numbered (reading.read msg)
   unfolding read_request asked_in
   list_read_lem v h = rw read_is (go lists h)
     where
@@ -101,7 +99,7 @@ module _ (t : List ℕ) (who : ℕ) (msg : List ℕ) (l : Listing msg) where
     unfolding sessions_after follow listing
     after_is = rw (l.kind, request_is)
 
-    pub reply_is : verdict_on t who msg ≡ plain why.accepted → reply (view_settings t) who msg 0 (refusal why.accepted Nothing) no_reports ≡ reply_to (view_settings t) who (view_sessions t) msg (verdict_on t who msg)
+    pub reply_is : verdict_on t who msg ≡ plain why.accepted → reply (view_settings t) who msg 0 (refusal why.accepted None) no_reports ≡ reply_to (view_settings t) who (view_sessions t) msg (verdict_on t who msg)
     unfolding reply_to listing
     reply_is accepts =
         let e = listing_empty (gotten lists) in
@@ -113,31 +111,31 @@ module _ (t : List ℕ) (who : ℕ) (msg out : List ℕ) (a : AskedList t who ms
   abbrev head : Listing msg
   head = a.list
 
-  pub list_frame_asks : (f : Framing) (k p : ℕ) → frame.framing_fault f ≡ frame_fault msg → f ≡ framings.Fault k p → Refusing t who msg out why.wrong_length (Element k)
+  pub list_frame_asks : (f : Result (Unit {0}) Spot) (x : Spot) → frame.framing_fault f ≡ frame_fault msg → f ≡ Err x → Refusing t who msg out why.wrong_length (Some x.kind)
   list_frame_asks = frame_asks t who msg out (listing_live t who msg head)
 
-  pub list_frame_replies : (f : Framing) (k p used : ℕ) (out' : List ℕ) → frame.framing_fault f ≡ frame_fault msg → f ≡ framings.Fault k p → Answers t who msg out used out' t → Replies t who msg out used p out' t
+  pub list_frame_replies : (f : Result (Unit {0}) Spot) (x : Spot) (used : ℕ) (out' : List ℕ) → frame.framing_fault f ≡ frame_fault msg → f ≡ Err x → Answers t who msg out used out' t → Replies t who msg out used x.place out' t
   list_frame_replies = frame_replies t who msg out (listing_live t who msg head)
 
-  pub list_asks : (f : Framing) (v : code.Verdict) (c k p : ℕ) → frame.framing_fault f ≡ frame_fault msg → f ≡ framings.Framed
-      → outcome v tt ≡ numbered (blank (list_read (elements list_place (take (length msg - 8) (drop 8 msg))))) → v ≡ Refused c k p → Refusing t who msg out c (Element k)
-  list_asks f v c k p fe fq e q = then_asks t who msg out (listing_live t who msg head) f v c k p fe fq (list_read_lem t who msg head v e) q
+  pub list_asks : (f : Result (Unit {0}) Spot) (v : Result (Unit {0}) Fault) (y : Fault) → frame.framing_fault f ≡ frame_fault msg → f ≡ Ok tt
+      → outcome v tt ≡ numbered (blank (list_read (elements list_place (take (length msg - 8) (drop 8 msg))))) → v ≡ Err y → Refusing t who msg out y.cause (Some y.kind)
+  list_asks f v y fe fq e q = then_asks t who msg out (listing_live t who msg head) f v y fe fq (list_read_lem t who msg head v e) q
 
-  pub list_replies : (f : Framing) (v : code.Verdict) (c k p used : ℕ) (out' : List ℕ) → frame.framing_fault f ≡ frame_fault msg → f ≡ framings.Framed
-      → outcome v tt ≡ numbered (blank (list_read (elements list_place (take (length msg - 8) (drop 8 msg))))) → v ≡ Refused c k p → Answers t who msg out used out' t → Replies t who msg out used p out' t
-  list_replies f v c k p used out' fe fq e q x = then_replies t who msg out (listing_live t who msg head) f v c k p used out' fe fq (list_read_lem t who msg head v e) q x
+  pub list_replies : (f : Result (Unit {0}) Spot) (v : Result (Unit {0}) Fault) (y : Fault) (used : ℕ) (out' : List ℕ) → frame.framing_fault f ≡ frame_fault msg → f ≡ Ok tt
+      → outcome v tt ≡ numbered (blank (list_read (elements list_place (take (length msg - 8) (drop 8 msg))))) → v ≡ Err y → Answers t who msg out used out' t → Replies t who msg out used y.place out' t
+  list_replies f v y used out' fe fq e q x = then_replies t who msg out (listing_live t who msg head) f v y used out' fe fq (list_read_lem t who msg head v e) q x
 
-  pub list_fine : (v : code.Verdict) → outcome v tt ≡ numbered (blank (list_read (elements list_place (take (length msg - 8) (drop 8 msg))))) → v ≡ Fine
+  pub list_fine : (v : Result (Unit {0}) Fault) → outcome v tt ≡ numbered (blank (list_read (elements list_place (take (length msg - 8) (drop 8 msg))))) → v ≡ fine
       → blank (list_read (elements list_place (take (length msg - 8) (drop 8 msg)))) ≡ done tt
-  list_fine v e q = go (blank (list_read (elements list_place (take (length msg - 8) (drop 8 msg))))) (sym (ap (λ (w : code.Verdict). outcome w tt) q) ∙ e)
+  list_fine v e q = go (blank (list_read (elements list_place (take (length msg - 8) (drop 8 msg))))) (sym (ap (λ (w : Result (Unit {0}) Fault). outcome w tt) q) ∙ e)
     where
       go : (r : Reading (Unit {0})) → got tt ≡ numbered r → r ≡ done tt
       go (faulty f) h = let z : ◌≡◌ {A = ℕ} 0 1 = cc in absurd (omega arith)
       go (done u) h = refl
 
-  pub listed_through : (s : Settings) (f : Framing) (v : code.Verdict) (used : ℕ) (out' t' : List ℕ) → s ≡ view_settings t → frame.framing_fault f ≡ frame_fault msg → f ≡ framings.Framed
-      → outcome v tt ≡ numbered (blank (list_read (elements list_place (take (length msg - 8) (drop 8 msg))))) → v ≡ Fine
-      → (used, out') ≡ written (reply s who msg 0 (refusal why.accepted Nothing) no_reports) out
+  pub listed_through : (s : Settings) (f : Result (Unit {0}) Spot) (v : Result (Unit {0}) Fault) (used : ℕ) (out' t' : List ℕ) → s ≡ view_settings t → frame.framing_fault f ≡ frame_fault msg → f ≡ Ok tt
+      → outcome v tt ≡ numbered (blank (list_read (elements list_place (take (length msg - 8) (drop 8 msg))))) → v ≡ fine
+      → (used, out') ≡ written (reply s who msg 0 (refusal why.accepted None) no_reports) out
       → t' ≡ encode (view_settings t) (keep (stays_session who (gotten (list_read (elements list_place (take (length msg - 8) (drop 8 msg)))))) (view_sessions t))
       → Replies t who msg out used 0 out' t'
   listed_through s f v used out' t' is fe fq e q w' d =

@@ -20,7 +20,10 @@ use Rattle.rules.specs.Serve.{unserved, reply_to, answered, answer, serve_sound,
 use Rattle.laws.proofs.KeptRules.{table_kept}
 use Rattle.frame.specs.HeaderOf.{outcome, request, sets, opened, header_of}
 use Rattle.frame.specs.declared.header.Header.{Header}
-use Rattle.frame.specs.declared.header.Header.TheVariants.{TooLong, Malformed, NotServed, Request, Sets}
+use Rattle.frame.specs.declared.header.Header.TheVariants.{Request, Sets}
+use Rattle.frame.specs.declared.header.Unserved.{Unserved}
+use Rattle.frame.specs.declared.header.Unserved.TheVariants.{TooLong, Malformed, NotServed}
+use Rattle.std.specs.Prelude.{Result, Ok, Err}
 use Rattle.laws.proofs.HeaderLaws.{seid_there_lem, seid_absent, long_there, long_absent}
 use Rattle.frame.proofs.HeaderLaws.{Opens, request_opens, sets_opens, request_is, sets_is}
 use Rattle.frame.proofs.ServeLaws.{header_outcome, header_answered}
@@ -72,7 +75,7 @@ module _ {t : List ℕ} {r : Result Tally Broken} {w ips : List ℕ} (x : Examin
       }
 
 -- what a request's header says
-module _ (msg : List ℕ) {h : Header} (is : opened h ≡ header_of msg) {kind seid : ℕ} (d : h ≡ Request kind seid) where
+module _ (msg : List ℕ) {h : Result Header Unserved} (is : opened h ≡ header_of msg) {kind seid : ℕ} (d : h ≡ Ok (Request kind seid)) where
   is_request_lem : request kind seid ≡ header_of msg
   is_request_lem = sym (ap opened d) ∙ is
 
@@ -132,22 +135,22 @@ module _ (t : List ℕ) (who : ℕ) (msg out : List ℕ) where
               long = a.long;
             }
 
-        module _ (room : min_space ≤ length out) {h : Header} (is : opened h ≡ header_of msg) where
+        module _ (room : min_space ≤ length out) {h : Result Header Unserved} (is : opened h ≡ header_of msg) where
           -- outcomes 3, 4 and 5
-          pub serves_outcome : {o u p : ℕ} (g : Header) (n : ℕ) → eqb n 0 ≡ false → opened g ≡ outcome n → h ≡ g → (o ≡ n) × (u ≡ 0) × (p ≡ 0) → Serves t who msg out o u p out t
+          pub serves_outcome : {o u p : ℕ} (g : Result Header Unserved) (n : ℕ) → eqb n 0 ≡ false → opened g ≡ outcome n → h ≡ g → (o ≡ n) × (u ≡ 0) × (p ≡ 0) → Serves t who msg out o u p out t
           serves_outcome g n z q d a =
               without_reply n z (after_sound ∙ header_outcome msg (view_settings t) who (view_sessions t) t out room n (sym q ∙ sym (ap opened d) ∙ is)) a
 
-          pub serves_long : {o u p : ℕ} → h ≡ TooLong → (o ≡ 3) × (u ≡ 0) × (p ≡ 0) → Serves t who msg out o u p out t
-          serves_long = serves_outcome TooLong 3 refl refl
+          pub serves_long : {o u p : ℕ} → h ≡ Err TooLong → (o ≡ 3) × (u ≡ 0) × (p ≡ 0) → Serves t who msg out o u p out t
+          serves_long = serves_outcome (Err TooLong) 3 refl refl
 
-          pub serves_malformed : {o u p : ℕ} → h ≡ Malformed → (o ≡ 4) × (u ≡ 0) × (p ≡ 0) → Serves t who msg out o u p out t
-          serves_malformed = serves_outcome Malformed 4 refl refl
+          pub serves_malformed : {o u p : ℕ} → h ≡ Err Malformed → (o ≡ 4) × (u ≡ 0) × (p ≡ 0) → Serves t who msg out o u p out t
+          serves_malformed = serves_outcome (Err Malformed) 4 refl refl
 
-          pub serves_other : {o u p : ℕ} → h ≡ NotServed → (o ≡ 5) × (u ≡ 0) × (p ≡ 0) → Serves t who msg out o u p out t
-          serves_other = serves_outcome NotServed 5 refl refl
+          pub serves_other : {o u p : ℕ} → h ≡ Err NotServed → (o ≡ 5) × (u ≡ 0) × (p ≡ 0) → Serves t who msg out o u p out t
+          serves_other = serves_outcome (Err NotServed) 5 refl refl
 
-          module _ (d : h ≡ Sets) where
+          module _ (d : h ≡ Ok Sets) where
             is_sets : sets ≡ header_of msg
             is_sets = sym (ap opened d) ∙ is
 
@@ -167,7 +170,7 @@ module _ (t : List ℕ) (who : ℕ) (msg out : List ℕ) where
             serves_list r = answers_through room (sets_opens msg is_sets) r
 
           -- a request is answered under the peer of its share
-          module _ {kind seid : ℕ} (d : h ≡ Request kind seid) {q : ℕ} (own : q ≡ who) where
+          module _ {kind seid : ℕ} (d : h ≡ Ok (Request kind seid)) {q : ℕ} (own : q ≡ who) where
             pub asks : T (octets msg) → Asked t q msg out
             asks o =
                 let r = request_is msg kind seid (is_request_lem msg is d) in

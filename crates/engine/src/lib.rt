@@ -17,10 +17,8 @@ ghost use Rattle.session.specs.Areas.{table_area};
 use areas::Lookup;
 use changes::Replied;
 use format::{causes, kinds};
-use frame::Framing;
-use frame::header::Header;
+use frame::header::{Header, Unserved};
 use pool::Taken;
-use reply::Offending;
 use stages::Known;
 
 mod set_deletion;
@@ -37,19 +35,11 @@ fn delete(t: &mut [u8], k: Known, msg: &[u8], p: usize, out: &mut [u8]) -> Repli
     requires { Asked t.old k.share.peer msg.now out.old × Live t.old k.share.peer msg.now × (kind_of msg.now ≡ deletion) × (place_in (table_area (view_settings t.old).limit) (key_for k.share.peer (header_seid msg.now)) t.old ≡ Found p) × (settings_of k.u ≡ view_settings t.old) }
     ensures { Replies t.old k.share.peer msg.now out.old result.used result.place out.new t.new }
 {
-    let framing = frame::frame_fault(msg);
-    if let Framing::Fault(kind, place) = framing {
-        let used = changes::refuse(
-            t,
-            k,
-            msg,
-            causes::WRONG_LENGTH,
-            Offending::Element(kind),
-            out,
-        );
+    if let Err(spot) = frame::frame_fault(msg) {
+        let used = changes::refuse(t, k, msg, causes::WRONG_LENGTH, Some(spot.kind), out);
         return Replied {
-            used: used,
-            place: place,
+            used,
+            place: spot.place,
         };
     }
     let u = k.u;
@@ -84,7 +74,7 @@ fn answer(
     let place = session::find(t, room, format::COUNT, k.share.peer as u64, k.seid);
     match place {
         Lookup::Absent(p) => {
-            let used = changes::refuse(t, k, msg, causes::NO_SESSION, Offending::Nothing, out);
+            let used = changes::refuse(t, k, msg, causes::NO_SESSION, None, out);
             return Replied {
                 used: used,
                 place: 0,
@@ -135,20 +125,19 @@ fn serve_of(t: &mut [u8], peer: u32, msg: &[u8], out: &mut [u8]) -> Served
         return unserved(2);
     }
     let u = unit::read(t);
-    let header = frame::header::read_header(msg);
-    match header {
-        Header::TooLong => return unserved(3),
-        Header::Malformed => return unserved(4),
-        Header::NotServed => return unserved(5),
-        Header::Sets => {
+    match frame::header::read_header(msg) {
+        Err(Unserved::TooLong) => unserved(3),
+        Err(Unserved::Malformed) => unserved(4),
+        Err(Unserved::NotServed) => unserved(5),
+        Ok(Header::Sets) => {
             let replied = set_deletion::delete_list(t, u, peer, msg, out);
-            return Served {
+            Served {
                 outcome: 0,
                 used: replied.used,
                 place: replied.place,
-            };
+            }
         }
-        Header::Request(kind, seid) => {
+        Ok(Header::Request(kind, seid)) => {
             let share = shares::share(t, u, peer, held.one, held.two, held.first);
             let free = u.addresses as usize - held.taken;
             let known = Known {
@@ -166,11 +155,11 @@ fn serve_of(t: &mut [u8], peer: u32, msg: &[u8], out: &mut [u8]) -> Served
                 msg,
                 out,
             );
-            return Served {
+            Served {
                 outcome: 0,
                 used: replied.used,
                 place: replied.place,
-            };
+            }
         }
     }
 }

@@ -7,9 +7,6 @@ ghost use Rattle.rules.specs.Layout.{view_settings};
 
 use changes::Replied;
 use format::causes;
-use frame::Framing;
-use reading::Verdict;
-use reply::Offending;
 use unit::Settings;
 
 // The reply of a set deletion that is refused; the table stays.
@@ -19,7 +16,7 @@ fn refuse_list(
     peer: u32,
     msg: &[u8],
     cause: u64,
-    offending: Offending,
+    offending: Option<u64>,
     out: &mut [u8],
 ) -> usize
     requires { AskedList t.now peer msg.now out.old × Refusing t.now peer msg.now out.old cause offending × (settings_of u ≡ view_settings t.now) }
@@ -33,38 +30,21 @@ pub fn delete_list(t: &mut [u8], u: Settings, peer: u32, msg: &[u8], out: &mut [
     requires { AskedList t.old peer msg.now out.old × (settings_of u ≡ view_settings t.old) }
     ensures { Replies t.old peer msg.now out.old result.used result.place out.new t.new }
 {
-    let framing = frame::frame_fault(msg);
-    if let Framing::Fault(kind, place) = framing {
-        let used = refuse_list(
-            t,
-            u,
-            peer,
-            msg,
-            causes::WRONG_LENGTH,
-            Offending::Element(kind),
-            out,
-        );
+    if let Err(spot) = frame::frame_fault(msg) {
+        let used = refuse_list(t, u, peer, msg, causes::WRONG_LENGTH, Some(spot.kind), out);
         return Replied {
-            used: used,
-            place: place,
+            used,
+            place: spot.place,
         };
     }
-    let verdict = sets::list_fault(&msg[8..]);
-    if let Verdict::Refused(cause, kind, place) = verdict {
-        let used = refuse_list(t, u, peer, msg, cause, Offending::Element(kind), out);
+    if let Err(fault) = sets::list_fault(&msg[8..]) {
+        let used = refuse_list(t, u, peer, msg, fault.cause, Some(fault.kind), out);
         return Replied {
-            used: used,
-            place: place,
+            used,
+            place: fault.place,
         };
     }
-    let used = reply::listed(
-        u,
-        peer,
-        msg,
-        causes::ACCEPTED as u8,
-        Offending::Nothing,
-        out,
-    );
+    let used = reply::listed(u, peer, msg, causes::ACCEPTED as u8, None, out);
     sets::remove_listed(t, peer, &msg[8..]);
     Replied {
         used: used,

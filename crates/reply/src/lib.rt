@@ -21,13 +21,6 @@ ghost use Rattle.created.specs.Entries.{max_grants, tolds_at, reports_at, within
 use format::{header, kinds};
 use unit::Settings;
 
-// The element at fault, by its type, where the refusal names one.
-#[derive(Clone, Copy)]
-pub enum Offending {
-    Nothing,
-    Element(u64),
-}
-
 // The SEID in a reply's header: the session's, but 0 for cause 65 and refused establishments.
 fn reply_seid(msg: &[u8], cause: u8, seid: u64) -> u64
     requires { 16 ≤ length msg.now }
@@ -64,14 +57,14 @@ fn write_front(home: u64, kind: u8, cause: u8, out: &mut [u8], at: usize) -> usi
     writing::write_cause(cause, out, next)
 }
 
-// The element that names the type at fault.
-fn write_offending(offending: Offending, out: &mut [u8], at: usize) -> usize
+// The element that names the type at fault, where the refusal names one.
+fn write_offending(offending: Option<u64>, out: &mut [u8], at: usize) -> usize
     requires { at + 6 ≤ length out.old }
     ensures { Placed out.old at (offending_element (offending_in offending)) result out.new }
 {
     match offending {
-        Offending::Nothing => at,
-        Offending::Element(t) => writing::write_offending(t, out, at),
+        None => at,
+        Some(kind) => writing::write_offending(kind, out, at),
     }
 }
 
@@ -96,7 +89,7 @@ pub fn refused(
     peer: u32,
     msg: &[u8],
     cause: u8,
-    offending: Offending,
+    offending: Option<u64>,
     out: &mut [u8],
 ) -> usize
     requires { WithSeid msg.now × (kind_of msg.now < 255) × (cause ≡ why.accepted → ⊥) × (min_space ≤ length out.old) }
@@ -137,7 +130,7 @@ pub fn listed(
     peer: u32,
     msg: &[u8],
     cause: u8,
-    offending: Offending,
+    offending: Option<u64>,
     out: &mut [u8],
 ) -> usize
     requires { Listing msg.now × (min_space ≤ length out.old) }

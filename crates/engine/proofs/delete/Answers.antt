@@ -11,8 +11,8 @@ use Rattle.engine.proofs.delete.Goals as goal
 pub refuse-used-requires : goal.refuse-used-requires
 refuse-used-requires c = (search rules, search frame_asks, search rules)
 
-pub returns-in-Fault : goal.returns-in-Fault
-returns-in-Fault c = search frame_replies
+pub returns-in-Err : goal.returns-in-Err
+returns-in-Err c = search frame_replies
 
 pub accepted-used-requires : goal.accepted-used-requires
 unfolding all

@@ -1,6 +1,8 @@
 -- `engine::serve_of` meets its contract.
 -- Assumes nothing.
+use mathlib.Core.Path.{ap, ◌∙◌}
 use native.Mathlib.Omega.{arith}
+use Rattle.std.specs.Prelude.{Ok, Err}
 use lib.Dec.{T}
 use Rattle.octets.specs.Octets.{octets}
 use Rattle.octets.proofs.Digits.{octets_known}
@@ -18,20 +20,20 @@ returns-then-out-lt-SPACE c = search serves_small
 pub read-u-requires : goal.read-u-requires
 read-u-requires c = omega (arith, count_long _ _ c.examine.ensures.answer _ c.in-Ok.is)
 
-pub returns-in-TooLong : goal.returns-in-TooLong
-returns-in-TooLong c = search serves_long
+pub returns-in-Err-TooLong : goal.returns-in-Err-TooLong
+returns-in-Err-TooLong c = serves_long _ _ _ _ c.requires c.examine.ensures c.in-Ok.is c.if-out-lt-SPACE.false c.read_header.ensures (c.in-Err-TooLong.is ∙ ap Err c.in-Err-TooLong.field-0-is) c.unserved-in-Err-TooLong.ensures
 
-pub returns-in-Malformed : goal.returns-in-Malformed
-returns-in-Malformed c = search serves_malformed
+pub returns-in-Err-Malformed : goal.returns-in-Err-Malformed
+returns-in-Err-Malformed c = serves_malformed _ _ _ _ c.requires c.examine.ensures c.in-Ok.is c.if-out-lt-SPACE.false c.read_header.ensures (c.in-Err-Malformed.is ∙ ap Err c.in-Err-Malformed.field-0-is) c.unserved-in-Err-Malformed.ensures
 
-pub returns-in-NotServed : goal.returns-in-NotServed
-returns-in-NotServed c = search serves_other
+pub returns-in-Err-NotServed : goal.returns-in-Err-NotServed
+returns-in-Err-NotServed c = serves_other _ _ _ _ c.requires c.examine.ensures c.in-Ok.is c.if-out-lt-SPACE.false c.read_header.ensures (c.in-Err-NotServed.is ∙ ap Err c.in-Err-NotServed.field-0-is) c.unserved-in-Err-NotServed.ensures
 
 pub delete_list-replied-requires : goal.delete_list-replied-requires
-delete_list-replied-requires c = (asks_list _ _ _ _ c.requires c.examine.ensures c.in-Ok.is c.if-out-lt-SPACE.false c.read_header-header.ensures c.in-Sets.is, c.read-u.ensures)
+delete_list-replied-requires c = (asks_list _ _ _ _ c.requires c.examine.ensures c.in-Ok.is c.if-out-lt-SPACE.false c.read_header.ensures (c.in-Ok-Sets.is ∙ ap Ok c.in-Ok-Sets.field-0-is), c.read-u.ensures)
 
-pub returns-in-Sets : goal.returns-in-Sets
-returns-in-Sets c = serves_list _ _ _ _ c.requires c.examine.ensures c.in-Ok.is c.if-out-lt-SPACE.false c.read_header-header.ensures c.in-Sets.is c.delete_list-replied.ensures
+pub returns-in-Ok-Sets : goal.returns-in-Ok-Sets
+returns-in-Ok-Sets c = serves_list _ _ _ _ c.requires c.examine.ensures c.in-Ok.is c.if-out-lt-SPACE.false c.read_header.ensures (c.in-Ok-Sets.is ∙ ap Ok c.in-Ok-Sets.field-0-is) c.delete_list-replied.ensures
 
 pub share-share-requires : goal.share-share-requires
 share-share-requires c = (search rules, search tallies)
@@ -46,8 +48,8 @@ answer-replied-requires c =
     let x = c.examine.ensures in
     let e = c.in-Ok.is in
     let l = c.if-out-lt-SPACE.false in
-    let h = c.read_header-header.ensures in
-    let d = c.in-Request.is in
+    let h = c.read_header.ensures in
+    let d = (c.in-Ok-Request.is ∙ ap Ok c.in-Ok-Request.field-0-is) in
     let own = c.share-share.ensures in (
       asks _ _ _ _ c.requires x e l h d own.0 o,
       counts x e c.read-u.ensures (search rules) (search rules) own,
@@ -55,5 +57,5 @@ answer-replied-requires c =
       seid_is c.args.msg.now h d,
     )
 
-pub returns-in-Request : goal.returns-in-Request
-returns-in-Request c = serves_answer _ _ _ _ c.requires c.examine.ensures c.in-Ok.is c.if-out-lt-SPACE.false c.read_header-header.ensures c.in-Request.is c.share-share.ensures.0 c.answer-replied.ensures
+pub returns-in-Ok-Request : goal.returns-in-Ok-Request
+returns-in-Ok-Request c = serves_answer _ _ _ _ c.requires c.examine.ensures c.in-Ok.is c.if-out-lt-SPACE.false c.read_header.ensures (c.in-Ok-Request.is ∙ ap Ok c.in-Ok-Request.field-0-is) c.share-share.ensures.0 c.answer-replied.ensures

@@ -4,9 +4,9 @@ use Rattle.rules.specs.Reply.{offending_element}
 use Rattle.writing.proofs.PlacedLaws.{placed_none}
 use Rattle.reply.proofs.write_offending.Goals as goal
 
-pub returns-in-Nothing : goal.returns-in-Nothing
+pub returns-in-None : goal.returns-in-None
 unfolding offending_element
-returns-in-Nothing c = let a = c.args in rw c.in-Nothing.is (placed_none a.out.now a.at)
+returns-in-None c = let a = c.args in rw c.in-None.is (placed_none a.out.now a.at)
 
-pub returns-in-Element : goal.returns-in-Element
-returns-in-Element c = rw c.in-Element.is c.write_offending.ensures
+pub returns-in-Some : goal.returns-in-Some
+returns-in-Some c = rw c.in-Some.is c.write_offending.ensures

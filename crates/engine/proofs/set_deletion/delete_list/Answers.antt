@@ -6,14 +6,14 @@ use Rattle.engine.proofs.set_deletion.delete_list.Goals as goal
 pub refuse_list-used-requires : goal.refuse_list-used-requires
 refuse_list-used-requires c = (search rules, search list_frame_asks, search rules)
 
-pub returns-in-Fault : goal.returns-in-Fault
-returns-in-Fault c = search list_frame_replies
+pub returns-in-Err : goal.returns-in-Err
+returns-in-Err c = search list_frame_replies
 
-pub refuse_list-used-requires-in-Refused : goal.refuse_list-used-requires-in-Refused
-refuse_list-used-requires-in-Refused c = (search rules, search list_asks, search rules)
+pub refuse_list-used-requires-in-Err-list_fault : goal.refuse_list-used-requires-in-Err-list_fault
+refuse_list-used-requires-in-Err-list_fault c = (search rules, search list_asks, search rules)
 
-pub returns-in-Refused : goal.returns-in-Refused
-returns-in-Refused c = search list_replies
+pub returns-in-Err-list_fault : goal.returns-in-Err-list_fault
+returns-in-Err-list_fault c = search list_replies
 
 pub remove_listed-requires : goal.remove_listed-requires
 remove_listed-requires c = search list_fine
