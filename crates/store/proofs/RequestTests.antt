@@ -10,6 +10,12 @@ use Rattle.rules.specs.Limits.{max_message}
 use Rattle.rules.specs.Message.{header_allowed, served, kind_of, header_seid, set_deletion, header_length}
 use Rattle.frame.specs.HeaderOf.{Opening, outcome, request, sets, header_of}
 use Rattle.rules.specs.Store.{request_allowed}
+use Rattle.std.specs.Prelude.{Result, Ok, Err, is_ok}
+use Rattle.frame.specs.HeaderOf.{opened}
+use Rattle.frame.specs.declared.header.Header.{Header}
+use Rattle.frame.specs.declared.header.Header.TheVariants.{Request, Sets}
+use Rattle.frame.specs.declared.header.Unserved.{Unserved}
+use Rattle.frame.specs.declared.header.Unserved.TheVariants.{TooLong, Malformed, NotServed}
 
 -- an answer of the header's that is no outcome
 abbrev pub passes : Opening → Bool
@@ -36,6 +42,17 @@ by_header msg = go (ltb max_message (length msg)) refl
 -- what an answer of the header's says
 pub told : (msg : List ℕ) (o : Opening) → o ≡ header_of msg → passes o ≡ request_allowed msg
 told msg o e = ap passes e ∙ by_header msg
+
+-- a header is a request's where it is read
+pub read_tells : (msg : List ℕ) (r : Result Header Unserved) → opened r ≡ header_of msg → is_ok r ≡ request_allowed msg
+read_tells msg r e = by_case r ∙ told msg (opened r) e
+  where
+    by_case : (r : Result Header Unserved) → is_ok r ≡ passes (opened r)
+    by_case (Ok (Request kind seid)) = refl
+    by_case (Ok Sets) = refl
+    by_case (Err TooLong) = refl
+    by_case (Err Malformed) = refl
+    by_case (Err NotServed) = refl
 
 -- what `==` says of two slices
 pub same_is : (a b : List ℕ) → pointwise nat_eq a b ≡ same_octets a b

@@ -13,8 +13,6 @@ ghost use Rattle.rules.specs.Repeats.{takes};
 ghost use Rattle.store.specs.Answers.{Keepable};
 ghost use Rattle.store.specs.Fronts.{whole_front, Front, span_of, reply_among, sound_from};
 
-use frame::header::Header;
-
 mod number;
 
 // How many entries there are at most, the longest reply that is kept, and the octets of a store.
@@ -39,13 +37,7 @@ pub struct WrongLength;
 pub fn is_request(msg: &[u8]) -> bool
     ensures { result ≡ request_allowed msg.now }
 {
-    match frame::header::read_header(msg) {
-        Header::TooLong => false,
-        Header::Malformed => false,
-        Header::NotServed => false,
-        Header::Request(kind, seid) => true,
-        Header::Sets => true,
-    }
+    frame::header::read_header(msg).is_ok()
 }
 
 // The entry at the front of s, if one stands there whole and is allowed.

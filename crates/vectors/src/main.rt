@@ -6,25 +6,22 @@ ghost use Rattle.std.specs.Prelude.{◌≡◌, false};
 ghost use Rattle.rules.specs.Elements.{read_fteid, read_fqcsid};
 ghost use Rattle.vectors.specs.First.{first_cause};
 
-use element::Written;
+use element::Refusal;
 use fqcsid::FqCsid;
 use fteid::FTeid;
 use std::io;
 use ue_ip::UeIp;
 
-// The cause of the first refusal of an F-TEID and an FQ-CSID, 0 where there is none: each answer is taken apart, and its
-// refusal passed up.
+// The cause of the first refusal of an F-TEID and an FQ-CSID, 0 where there is none.
 fn first_refusal(tunnel: &[u8], csid: &[u8]) -> u64
     ensures { result ≡ first_cause (read_fteid false tunnel.now) (read_fqcsid csid.now) }
 {
-    let a = fteid::read(tunnel, false);
-    let Ok(_) = a else {
-        return fteid::cause_of(a);
-    };
-    let b = fqcsid::read(csid);
-    let Ok(_) = b else {
-        return fqcsid::cause_of(b);
-    };
+    if let Err(refusal) = fteid::read(tunnel, false) {
+        return element::cause_of(refusal);
+    }
+    if let Err(refusal) = fqcsid::read(csid) {
+        return element::cause_of(refusal);
+    }
     0
 }
 
@@ -37,12 +34,12 @@ fn line(rt: &impl Print, s: &[u8], n: usize) -> io::Result<()> {
     println!(rt)
 }
 
-fn refused(rt: &impl Print, cause: u64) -> io::Result<()> {
-    println!(rt; "cause {cause}")
+fn refused(rt: &impl Print, refusal: Refusal) -> io::Result<()> {
+    println!(rt; "cause {}", element::cause_of(refusal))
 }
 
 // What a writer answered, and the space that it left.
-fn written(rt: &impl Print, w: Written, s: &[u8]) -> io::Result<()> {
+fn written(rt: &impl Print, w: Option<usize>, s: &[u8]) -> io::Result<()> {
     let n = s.len();
     match w {
         Some(count) => number(rt, count as u64)?,
@@ -52,9 +49,9 @@ fn written(rt: &impl Print, w: Written, s: &[u8]) -> io::Result<()> {
 }
 
 fn tunnel(rt: &impl Print, s: &[u8], endpoint: bool) -> io::Result<()> {
-    let a = fteid::read(s, endpoint);
-    let Ok(v) = a else {
-        return refused(rt, fteid::cause_of(a));
+    let v = match fteid::read(s, endpoint) {
+        Ok(v) => v,
+        Err(refusal) => return refused(rt, refusal),
     };
     number(rt, v.flags)?;
     number(rt, v.teid)?;
@@ -71,9 +68,9 @@ fn tunnel(rt: &impl Print, s: &[u8], endpoint: bool) -> io::Result<()> {
 }
 
 fn csid(rt: &impl Print, s: &[u8]) -> io::Result<()> {
-    let a = fqcsid::read(s);
-    let Ok(v) = a else {
-        return refused(rt, fqcsid::cause_of(a));
+    let v = match fqcsid::read(s) {
+        Ok(v) => v,
+        Err(refusal) => return refused(rt, refusal),
     };
     number(rt, v.id_type)?;
     number(rt, v.count)?;
@@ -94,9 +91,9 @@ fn csid(rt: &impl Print, s: &[u8]) -> io::Result<()> {
 
 // A SEID is written as a reply has it, with 192.0.2.1.
 fn seid(rt: &impl Print, s: &[u8]) -> io::Result<()> {
-    let a = fseid::read(s);
-    let Ok(n) = a else {
-        return refused(rt, fseid::cause_of(a));
+    let n = match fseid::read(s) {
+        Ok(n) => n,
+        Err(refusal) => return refused(rt, refusal),
     };
     number(rt, n)?;
     let mut out = [0xaau8; 16];
@@ -116,9 +113,9 @@ fn kind(rt: &impl Print, v: &UeIp) -> io::Result<()> {
 }
 
 fn address(rt: &impl Print, s: &[u8]) -> io::Result<()> {
-    let a = ue_ip::read(s);
-    let Ok(v) = a else {
-        return refused(rt, ue_ip::cause_of(a));
+    let v = match ue_ip::read(s) {
+        Ok(v) => v,
+        Err(refusal) => return refused(rt, refusal),
     };
     kind(rt, &v)?;
     let mut out = [0xaau8; 8];

@@ -9,11 +9,9 @@ mod record;
 ghost use Rattle.std.specs.Prelude.{◌≤◌, length};
 ghost use Rattle.frame.specs.HeaderOf.{SessionHeader};
 
-use format::causes;
-use frame::Framing;
-use frame::header::Header;
-use reading::Verdict;
-use request::{Plan, Reading};
+use frame::header::{Header, Unserved};
+use reading::Fault;
+use request::Plan;
 use std::io;
 
 // So many octets of standard input are read at most.
@@ -23,8 +21,11 @@ fn outcome(rt: &impl Print, n: u64) -> io::Result<()> {
     println!(rt; "outcome {n}")
 }
 
-fn fault(rt: &impl Print, cause: u64, kind: u64, place: u64) -> io::Result<()> {
-    println!(rt; "cause {cause} type {kind} place {place}")
+fn fault(rt: &impl Print, found: Fault) -> io::Result<()> {
+    println!(rt;
+        "cause {} type {} place {}",
+        found.cause, found.kind, found.place
+    )
 }
 
 fn title(rt: &impl Print, kind: u64) -> io::Result<()> {
@@ -57,8 +58,8 @@ fn message(rt: &impl Print, msg: &[u8], kind: u64, header: u64) -> io::Result<()
     let mut words = [0u64; format::PLAN];
     let sequence = octets::read(msg, 12, 3);
     match request::read_request(msg, &mut words) {
-        Reading::Fault(cause, kind, place) => fault(rt, cause, kind, place as u64),
-        Reading::Whole(plan) => {
+        Err(found) => fault(rt, found),
+        Ok(plan) => {
             head(rt, kind, header, sequence, &plan)?;
             record::all(rt, &words, plan.rows)?;
             if plan.noted {
@@ -73,22 +74,22 @@ fn message(rt: &impl Print, msg: &[u8], kind: u64, header: u64) -> io::Result<()
 fn set_deletion(rt: &impl Print, msg: &[u8]) -> io::Result<()>
     requires { (8 ≤ length msg.now) × (length msg.now ≤ 2048) }
 {
-    if let Framing::Fault(kind, place) = frame::frame_fault(msg) {
-        return fault(rt, causes::WRONG_LENGTH, kind, place as u64);
+    if let Err(spot) = frame::frame_fault(msg) {
+        return fault(rt, Fault::from(spot));
     }
-    if let Verdict::Refused(cause, kind, place) = sets::list_fault(&msg[8..]) {
-        return fault(rt, cause, kind, place as u64);
+    if let Err(found) = sets::list_fault(&msg[8..]) {
+        return fault(rt, found);
     }
     println!(rt; "read set-deletion sequence={}", octets::read(msg, 4, 3))
 }
 
 fn verdict(rt: &impl Print, msg: &[u8]) -> io::Result<()> {
     match frame::header::read_header(msg) {
-        Header::TooLong => outcome(rt, 3),
-        Header::Malformed => outcome(rt, 4),
-        Header::NotServed => outcome(rt, 5),
-        Header::Request(kind, seid) => message(rt, msg, kind, seid),
-        Header::Sets => set_deletion(rt, msg),
+        Err(Unserved::TooLong) => outcome(rt, 3),
+        Err(Unserved::Malformed) => outcome(rt, 4),
+        Err(Unserved::NotServed) => outcome(rt, 5),
+        Ok(Header::Request(kind, seid)) => message(rt, msg, kind, seid),
+        Ok(Header::Sets) => set_deletion(rt, msg),
     }
 }
 
