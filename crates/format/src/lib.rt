@@ -131,6 +131,8 @@ pub const GRANTS: usize = MAX_PDRS + MAX_ENDPOINTS;
 // Words of a plan's row, and of the plans that messages of at most so many octets have room in: n rows are enough for 14 + 9 * n octets.
 pub const ROW: usize = 20;
 
+pub type Row = [u64; ROW];
+
 pub const SHORT_PLAN: usize = 40 * ROW;
 
 pub const SHORT: usize = 14 + 9 * 40;

@@ -1,8 +1,8 @@
+pub mod ChainLaws
 pub mod ListLaws
 pub mod AddressLaws
 pub mod FteidLaws
 pub mod RowTests
-pub mod RangeLaws
 pub mod TunnelLaws
 pub mod UeLaws
 pub mod PairLaws

@@ -4,29 +4,26 @@ use mathlib.Core.Path.{◌≡◌, refl, sym, ap, ap₂, ◌∙◌}
 use mathlib.Core.Bool.{Bool, true, false, not, ◌&&◌, ◌||◌}
 use mathlib.Core.Option.{Option, none, some}
 use mathlib.Core.List.{List, [], ◌∷◌, ◌++◌, map}
-use Prim.Native.Nat.{ℕ, ◌+◌, ◌-◌, ◌≤◌, ◌<◌}
+use Prim.Native.Nat.{ℕ, ◌+◌}
 use native.Mathlib.Nat.{zero-add}
 use native.Mathlib.Omega.{arith}
 use lib.Dec.{eqb}
-use borrow.Author.Tests.{eqb-true, not-true, not-false}
-use lib.ListN.{length, take, drop}
+use borrow.Author.Tests.{eqb-true}
+use lib.ListN.{length}
 use Rattle.octets.specs.Choice.{pick, flag, is_some, cons_option}
 use Rattle.octets.specs.Octets.{bit}
 use Rattle.octets.specs.Lists.{member, any, keep, collect, distinct}
 use Rattle.octets.specs.Rows.{has_tag}
 use Rattle.octets.proofs.ListLaws.{collect_map}
-use Rattle.octets.proofs.RowLaws.{rows_none}
-use Rattle.octets.proofs.Loops.{left_part}
 use Rattle.octets.proofs.Bools.{eqb_turn}
-use Rattle.octets.proofs.Numbers.{slices_next}
 use Rattle.rules.specs.Model.{Holding, teid_of}
 use Rattle.rules.specs.Stages.{endpoint_restored, pdr_restored, restored_holdings, needed}
 use Rattle.rules.specs.Types as ie
-use Rattle.plan.specs.Rows.{row_width, word, tagged, rows_of, row_pdr, row_endpoint, request_in}
+use Rattle.plan.specs.Rows.{word, tagged, row_pdr, row_endpoint, request_in}
 use Rattle.plan.specs.Words as its
 use Rattle.plan.specs.RowRules.{on_some, has_fteid, row_holding, row_choice, shares_choice, restores, same_teid, counted}
 use Rattle.plan.proofs.ListLaws.{any_ext, any_collect}
-use Rattle.plan.proofs.FteidLaws.{hold_of, holding_row, restores_row, chooses_some}
+use Rattle.plan.proofs.FteidLaws.{restores_row, chooses_some}
 use Rattle.plan.proofs.MergeLaws.{Merge, empty, left, right, any_middle, any_merge, merged}
 use Rattle.plan.proofs.PairLaws.{tags_apart}
 use Rattle.plan.proofs.NeedLaws.{need_rows, need_rows_lem}
@@ -130,63 +127,7 @@ pub needed_rows_lem : (seid : ℕ) (restoring noted : Bool) (rows : List (List �
 unfolding needed
 needed_rows_lem seid restoring noted rows = ap₂ ◌+◌ (need_rows_lem seid restoring noted rows) (named_rows_lem seid restoring noted rows) ∙ together rows
 
--- ---- the walk
-
-pub needed_none : (s : List ℕ) (n : ℕ) → n ≤ 0 → needed_rows (rows_of n s) ≡ 0
+pub needed_none : (rows : List (List ℕ)) → length rows ≡ 0 → needed_rows rows ≡ 0
 unfolding needed_rows
-needed_none s n h =
-    let e : n ≡ 0 = omega arith in
-    rw (e, rows_none row_width s)
-
-module _ (s : List ℕ) (n : ℕ) (h : 0 < n) where
-  abbrev later : List (List ℕ)
-  later = rows_of (n - 1) (take (length s - row_width) (drop row_width s))
-
-  needed_first : needed_rows (rows_of n s) ≡ flag (counted (take row_width s) later) + needed_rows later
-  unfolding needed_rows
-  needed_first = rw (slices_next row_width n s h, left_part s row_width)
-
-  pub needed_other : counted (take row_width s) later ≡ false → needed_rows later ≡ needed_rows (rows_of n s)
-  needed_other e = sym (needed_first ∙ rw e (zero-add _))
-
-  pub needed_one : counted (take row_width s) later ≡ true → 1 + needed_rows later ≡ needed_rows (rows_of n s)
-  needed_one e = sym (needed_first ∙ rw e)
-
--- ---- by the tests that code makes
-
-restores_pick : (c : Bool) (h : Holding) (f : ℕ → Bool) → restores f (pick c (some h) none) ≡ (c && f h.teid)
-unfolding restores
-restores_pick true h f = refl
-restores_pick false h f = refl
-
-same_is : (a b : List ℕ) → same_teid a b ≡ (is_some (row_holding a) && (is_some (row_holding b) && eqb (word its.teid a) (word its.teid b)))
-unfolding same_teid
-same_is a b =
-    rw (restores_row a, restores_row b, holding_row a, holding_row b)
-    (restores_pick (has_fteid a && not (bit 2 (word its.flags a))) (hold_of a) (λ t. restores (λ u. eqb t u) (pick (has_fteid b && not (bit 2 (word its.flags b))) (some (hold_of b)) none))
-    ∙ ap (λ (d : Bool). (has_fteid a && not (bit 2 (word its.flags a))) && d) (restores_pick (has_fteid b && not (bit 2 (word its.flags b))) (hold_of b) (λ u. eqb (word its.teid a) u)))
-
-module _ (a b : List ℕ) (p : Bool) (e : p ≡ is_some (row_holding a)) where
-  pub same_left : not p ≡ true → false ≡ same_teid a b
-  same_left h = sym (same_is a b ∙ rw (← e, not-true p h))
-
-  module _ (h : not p ≡ false) (q : Bool) (f : q ≡ is_some (row_holding b)) where
-    pub same_right : not q ≡ true → false ≡ same_teid a b
-    same_right g = sym (same_is a b ∙ rw (← e, ← f, not-false p h, not-true q g))
-
-    pub same_both : not q ≡ false → eqb (word its.teid a) (word its.teid b) ≡ same_teid a b
-    same_both g = sym (same_is a b ∙ rw (← e, ← f, not-false p h, not-false q g))
-
-module _ (row : List ℕ) (rows : List (List ℕ)) (p : Bool) (e : p ≡ is_some (row_choice row)) where
-  pub counts_choice : p ≡ true → (s : Bool) → s ≡ any (shares_choice row) rows → not s ≡ counted row rows
-  unfolding counted
-  counts_choice h s f = sym (rw (← e, h, ← f))
-
-  module _ (h : p ≡ false) (q : Bool) (f : q ≡ is_some (row_holding row)) where
-    pub counts_none : not q ≡ true → false ≡ counted row rows
-    unfolding counted
-    counts_none g = sym (rw (← e, h, ← f, not-true q g))
-
-    pub counts_named : not q ≡ false → (s : Bool) → s ≡ any (same_teid row) rows → not s ≡ counted row rows
-    unfolding counted
-    counts_named g s k = sym (rw (← e, h, ← f, not-false q g, ← k))
+needed_none [] h = refl
+needed_none (row ∷ rows) h = absurd (omega arith)

@@ -1,14 +1,14 @@
 -- The rules on two rows, by the tests that code makes. Assumes nothing.
 use mathlib.Core.Path.{◌≡◌, refl, sym, ap, ap₂, ◌∙◌}
-use mathlib.Core.Bool.{Bool, true, false, not, ◌&&◌, ◌||◌, false≢true, or-false}
+use mathlib.Core.Bool.{Bool, true, false, not, ◌&&◌, ◌||◌, false≢true}
 use mathlib.Core.Option.{Option, none, some}
 use mathlib.Core.List.{List}
 use Prim.Native.Nat.{ℕ, ◌+◌, ◌*◌, ◌/◌, ◌%◌, ◌^◌}
 use native.Mathlib.Omega.{arith}
 use native.Mathlib.Nat.{mod-lt, zero-lt-suc}
 use lib.Dec.{T, eqb, eqb→eq, eqb_refl}
-use borrow.Author.Tests.{eq-eqb, ne_eqb, eqb-true}
-use Rattle.octets.specs.Choice.{pick, is_some, all_of, bind_option, same_bool}
+use borrow.Author.Tests.{eqb-true}
+use Rattle.octets.specs.Choice.{pick, is_some, bind_option, same_bool}
 use Rattle.octets.specs.Octets.{bit}
 use Rattle.octets.specs.Rows.{has_tag}
 use Rattle.octets.proofs.Tests.{and_left, and_right, both}
@@ -20,9 +20,10 @@ use Rattle.rules.specs.Grants.{of_pdr, choice_of, pdr_choice, choice_id}
 use Rattle.plan.specs.Rows.{word, row_fteid, row_local, row_pdr}
 use Rattle.rules.specs.Types as ie
 use Rattle.plan.specs.Words as its
-use Rattle.plan.specs.RowRules.{has_fteid, row_holding, row_choice, row_choose_id, alike_rows, repeats, same_id, other_choice, holds_apart, other_hold, disagree, shares_choice}
+use Rattle.plan.specs.RowRules.{has_fteid, row_holding, row_choice, row_choose_id, alike_rows, other_choice, holds_apart, other_hold, shares_choice, restores, same_teid}
 use Rattle.plan.proofs.FteidLaws.{v4_row, v6_row, chooses_some, choose_id_row, holding_row, hold_of}
-use Rattle.plan.proofs.RowTests.{tag_yes, tag_no}
+use Rattle.plan.proofs.RowTests.{tag_no}
+use Rattle.plan.proofs.TunnelLaws.{held_row}
 use Rattle.octets.proofs.Bools.{both_ways, same_bit}
 
 -- ---- families and source interface
@@ -59,6 +60,10 @@ alike_row a b = rw (v4_row a, v4_row b, v6_row a, v6_row b, families (word its.f
 
 -- ---- CHOOSE IDs
 
+tag_is : (t : ℕ) (row : List ℕ) → has_tag t row ≡ true → word its.tag row ≡ t
+unfolding has_tag
+tag_is t row h = eqb-true (word its.tag row) t h
+
 no_id : (o : Option ℕ) → is_some o ≡ false → o ≡ none
 no_id none h = refl
 no_id (some i) h = absurd (false≢true (sym h))
@@ -75,17 +80,14 @@ id_known row h = choose_id_row row ∙ one ((has_fteid row && bit 2 (word its.fl
     one true e = refl
     one false e = absurd (false≢true e)
 
-pub shares_left : (a b : List ℕ) → is_some (row_choose_id a) ≡ false → shares_choice a b ≡ false
+pub shares_row : (a b : List ℕ) → shares_choice a b ≡ (is_some (row_choose_id a) && (is_some (row_choose_id b) && eqb (word its.choose_id a) (word its.choose_id b)))
 unfolding shares_choice same_choice
-shares_left a b h = rw (no_id (row_choose_id a) h)
-
-pub shares_right : (a b : List ℕ) → is_some (row_choose_id b) ≡ false → shares_choice a b ≡ false
-unfolding shares_choice
-shares_right a b h = rw (no_id (row_choose_id b) h) (same_none (row_choose_id a))
-
-pub shares_both : (a b : List ℕ) → is_some (row_choose_id a) ≡ true → is_some (row_choose_id b) ≡ true → shares_choice a b ≡ eqb (word its.choose_id a) (word its.choose_id b)
-unfolding shares_choice same_choice
-shares_both a b h g = rw (id_known a h, id_known b g)
+shares_row a b = one (is_some (row_choose_id a)) (is_some (row_choose_id b)) refl refl
+  where
+    one : (x y : Bool) → is_some (row_choose_id a) ≡ x → is_some (row_choose_id b) ≡ y → same_choice (row_choose_id a) (row_choose_id b) ≡ (x && (y && eqb (word its.choose_id a) (word its.choose_id b)))
+    one true true h g = rw (id_known a h, id_known b g)
+    one true false h g = rw (no_id (row_choose_id b) g) (same_none (row_choose_id a))
+    one false y h g = rw (no_id (row_choose_id a) h)
 
 -- a Create PDR's CHOOSE ID is its F-TEID's
 local_id : (i : ℕ) (o : Option Fteid) → bind_option (bind_option o (choice_of of_pdr i)) choice_id ≡ bind_option o choose_id_of
@@ -110,19 +112,16 @@ may_share false false v w i j = one (same_choice (choose_id_of v) (choose_id_of 
     one true t = refl
     one false t = refl
 
-pub choice_other : (a b : List ℕ) → word its.tag a ≡ ie.create_pdr → word its.tag b ≡ ie.create_pdr → other_choice a b ≡ (shares_choice a b && not (alike_rows a b))
-unfolding other_choice choices_agree row_pdr shares_choice alike_rows
-choice_other a b h g =
-    rw (tag_yes a ie.create_pdr h, tag_yes b ie.create_pdr g, pdr_id_lem a h, pdr_id_lem b g)
-    (unfold row_local in (may_share (eqb (word its.flags a) 0) (eqb (word its.flags b) 0) (row_fteid a) (row_fteid b) (word its.source a) (word its.source b)))
-
-pub choice_left : (a b : List ℕ) → (word its.tag a ≡ ie.create_pdr → ⊥) → other_choice a b ≡ false
-unfolding other_choice
-choice_left a b h = rw (tag_no a ie.create_pdr h)
-
-pub choice_right : (a b : List ℕ) → word its.tag a ≡ ie.create_pdr → (word its.tag b ≡ ie.create_pdr → ⊥) → other_choice a b ≡ false
-unfolding other_choice
-choice_right a b h g = rw (tag_yes a ie.create_pdr h, tag_no b ie.create_pdr g)
+pub choice_rows : (a b : List ℕ) → other_choice a b ≡ (has_tag ie.create_pdr a && (has_tag ie.create_pdr b && (shares_choice a b && not (alike_rows a b))))
+unfolding other_choice choices_agree row_pdr shares_choice alike_rows row_local
+choice_rows a b = one (has_tag ie.create_pdr a) (has_tag ie.create_pdr b) refl refl
+  where
+    one : (x y : Bool) → has_tag ie.create_pdr a ≡ x → has_tag ie.create_pdr b ≡ y → (x && (y && not (choices_agree (row_pdr a) (row_pdr b)))) ≡ (x && (y && (shares_choice a b && not (alike_rows a b))))
+    one true true h g =
+        rw (pdr_id_lem a (tag_is ie.create_pdr a h), pdr_id_lem b (tag_is ie.create_pdr b g))
+        (may_share (eqb (word its.flags a) 0) (eqb (word its.flags b) 0) (row_fteid a) (row_fteid b) (word its.source a) (word its.source b))
+    one true false h g = refl
+    one false y h g = refl
 
 -- ---- holds
 
@@ -133,132 +132,63 @@ hold_known row h = holding_row row ∙ one (has_fteid row && not (bit 2 (word it
     one true e = refl
     one false e = absurd (false≢true e)
 
-apart_left : (o p : Option Holding) → is_some o ≡ false → holds_apart o p ≡ false
-unfolding holds_apart
-apart_left none p h = refl
-apart_left (some k) p h = absurd (false≢true (sym h))
-
-apart_right : (o p : Option Holding) → is_some p ≡ false → holds_apart o p ≡ false
-unfolding holds_apart
-apart_right none p h = refl
-apart_right (some k) none h = refl
-apart_right (some k) (some l) h = absurd (false≢true (sym h))
-
-pub hold_left : (a b : List ℕ) → is_some (row_holding a) ≡ false → other_hold a b ≡ false
-unfolding other_hold
-hold_left a b h = apart_left (row_holding a) (row_holding b) h
-
-pub hold_right : (a b : List ℕ) → is_some (row_holding b) ≡ false → other_hold a b ≡ false
-unfolding other_hold
-hold_right a b h = apart_right (row_holding a) (row_holding b) h
-
--- with both restored
-both_hold : (a b : List ℕ) → is_some (row_holding a) ≡ true → is_some (row_holding b) ≡ true
-    → other_hold a b ≡ not (not (eqb (word its.teid a) (word its.teid b)) || all_of (share_tests (hold_of a) (hold_of b)))
-unfolding other_hold holds_apart agree
-both_hold a b h g = rw (hold_known a h, hold_known b g)
-
-pub hold_other : (a b : List ℕ) → (word its.teid a ≡ word its.teid b → ⊥) → other_hold a b ≡ false
-hold_other a b h = one (is_some (row_holding a)) (is_some (row_holding b)) refl refl
+-- two restored F-TEIDs with one TEID
+pub same_row : (a b : List ℕ) → same_teid a b ≡ (eqb (word its.teid a) (word its.teid b) && (is_some (row_holding a) && is_some (row_holding b)))
+unfolding same_teid
+same_row a b =
+    rw (held_row (λ t. restores (λ u. eqb t u) (row_holding b)) a, held_row (λ u. eqb (word its.teid a) u) b)
+    (one (is_some (row_holding a)) (is_some (row_holding b)) (eqb (word its.teid a) (word its.teid b)))
   where
-    one : (x y : Bool) → is_some (row_holding a) ≡ x → is_some (row_holding b) ≡ y → other_hold a b ≡ false
-    one false y p q = hold_left a b p
-    one true false p q = hold_right a b q
-    one true true p q = both_hold a b p q ∙ rw (ne_eqb (word its.teid a) (word its.teid b) h)
+    one : (x y z : Bool) → (x && (y && z)) ≡ (z && (x && y))
+    one true true true = refl
+    one true true false = refl
+    one true false true = refl
+    one true false false = refl
+    one false y true = refl
+    one false y false = refl
 
-module _ (a b : List ℕ) (e : word its.teid a ≡ word its.teid b) (h : is_some (row_holding a) ≡ true) (g : is_some (row_holding b) ≡ true) where
-  pub hold_endpoint : word its.tag a ≡ ie.create_endpoint → other_hold a b ≡ true
-  unfolding share_tests
-  hold_endpoint t = both_hold a b h g ∙ rw (eq-eqb (word its.teid a) (word its.teid b) e, tag_yes a ie.create_endpoint t)
+pub hold_rows : (a b : List ℕ) → other_hold a b ≡ (same_teid a b && (has_tag ie.create_endpoint a || (has_tag ie.create_endpoint b || not (alike_rows a b))))
+unfolding other_hold holds_apart agree share_tests alike_rows alike_fteids
+hold_rows a b = rw (same_row a b) (one (is_some (row_holding a)) (is_some (row_holding b)) refl refl)
+  where
+    tail : (b : Bool) → not (b && true) ≡ not b
+    tail true = refl
+    tail false = refl
 
-  pub hold_later : (word its.tag a ≡ ie.create_endpoint → ⊥) → word its.tag b ≡ ie.create_endpoint → other_hold a b ≡ true
-  unfolding share_tests
-  hold_later s t = both_hold a b h g ∙ rw (eq-eqb (word its.teid a) (word its.teid b) e, tag_no a ie.create_endpoint s, tag_yes b ie.create_endpoint t)
+    last : (e p q x y : Bool) (m n : ℕ) → not (not e || (not p && (not q && (x && (y && (eqb (pick p 0 m) (pick q 0 n) && true)))))) ≡ ((e && true) && (p || (q || not ((x && y) && eqb m n))))
+    last true true q x y m n = refl
+    last true false true x y m n = refl
+    last true false false true true m n = tail (eqb m n)
+    last true false false true false m n = refl
+    last true false false false y m n = refl
+    last false p q x y m n = refl
 
-  pub hold_pdrs : (word its.tag a ≡ ie.create_endpoint → ⊥) → (word its.tag b ≡ ie.create_endpoint → ⊥) → other_hold a b ≡ not (alike_rows a b)
-  unfolding share_tests alike_rows alike_fteids
-  hold_pdrs s t =
-      both_hold a b h g
-      ∙ rw (eq-eqb (word its.teid a) (word its.teid b) e, tag_no a ie.create_endpoint s, tag_no b ie.create_endpoint t, v4_row a, v4_row b, v6_row a, v6_row b)
-      (one (same_bool (bit 0 (word its.flags a)) (bit 0 (word its.flags b))) (same_bool (bit 1 (word its.flags a)) (bit 1 (word its.flags b))) (eqb (word its.source a) (word its.source b)))
-    where
-      one : (x y z : Bool) → not (x && (y && (z && true))) ≡ not ((x && y) && z)
-      one true true true = refl
-      one true true false = refl
-      one true false z = refl
-      one false y z = refl
+    and_none : (e t : Bool) → false ≡ ((e && false) && t)
+    and_none true t = refl
+    and_none false t = refl
+
+    no_hold : (o : Option Holding) → is_some o ≡ false → o ≡ none
+    no_hold none h = refl
+    no_hold (some k) h = absurd (false≢true (sym h))
+
+    one : (x y : Bool) → is_some (row_holding a) ≡ x → is_some (row_holding b) ≡ y
+        → holds_apart (row_holding a) (row_holding b) ≡ ((eqb (word its.teid a) (word its.teid b) && (x && y)) && (has_tag ie.create_endpoint a || (has_tag ie.create_endpoint b || not (alike_rows a b))))
+    one true true h g =
+        rw (hold_known a h, hold_known b g, v4_row a, v4_row b, v6_row a, v6_row b)
+        (last (eqb (word its.teid a) (word its.teid b)) (has_tag ie.create_endpoint a) (has_tag ie.create_endpoint b) (same_bool (bit 0 (word its.flags a)) (bit 0 (word its.flags b))) (same_bool (bit 1 (word its.flags a)) (bit 1 (word its.flags b))) (word its.source a) (word its.source b))
+    one true false h g = rw (no_hold (row_holding b) g, hold_known a h) (and_none (eqb (word its.teid a) (word its.teid b)) _)
+    one false y h g = rw (no_hold (row_holding a) h) (and_none (eqb (word its.teid a) (word its.teid b)) _)
 
 -- ---- IDs
-
-tag_is : (t : ℕ) (row : List ℕ) → has_tag t row ≡ true → word its.tag row ≡ t
-unfolding has_tag
-tag_is t row h = eqb-true (word its.tag row) t h
 
 -- a row has one type
 pub tags_apart : (t u : ℕ) (row : List ℕ) → (t ≡ u → ⊥) → has_tag t row ≡ true → has_tag u row ≡ false
 tags_apart t u row h e = tag_no row u (λ f. h (sym (tag_is t row e) ∙ f))
 
-apart_tags : (t field : ℕ) (a b : List ℕ) → (word its.tag a ≡ word its.tag b → ⊥) → repeats t field a b ≡ false
-unfolding repeats
-apart_tags t field a b h = one (has_tag t a) (has_tag t b) refl refl
-  where
-    one : (x y : Bool) → has_tag t a ≡ x → has_tag t b ≡ y → (has_tag t a && (has_tag t b && eqb (word field a) (word field b))) ≡ false
-    one false y p q = rw p
-    one true false p q = rw (p, q)
-    one true true p q = absurd (h (tag_is t a p ∙ sym (tag_is t b q)))
-
-pub id_apart : (a b : List ℕ) → (word its.tag a ≡ word its.tag b → ⊥) → same_id a b ≡ false
-unfolding same_id
-id_apart a b h = rw (apart_tags ie.remove_pdr its.pdr_id a b h, apart_tags ie.remove_endpoint its.endpoint_id a b h, apart_tags ie.create_pdr its.pdr_id a b h, apart_tags ie.create_endpoint its.endpoint_id a b h, apart_tags ie.update_pdr its.pdr_id a b h)
-
--- the ID's place in a row of this type
-module _ (a b : List ℕ) (e : word its.tag a ≡ word its.tag b) where
-  pub id_1 : word its.tag a ≡ ie.create_pdr → same_id a b ≡ eqb (word its.pdr_id a) (word its.pdr_id b)
-  unfolding same_id repeats has_tag
-  id_1 h = rw (← e, h) (or-false _)
-
-  pub id_9 : word its.tag a ≡ ie.update_pdr → same_id a b ≡ eqb (word its.pdr_id a) (word its.pdr_id b)
-  unfolding same_id repeats has_tag
-  id_9 h = rw (← e, h) (or-false _)
-
-  pub id_15 : word its.tag a ≡ ie.remove_pdr → same_id a b ≡ eqb (word its.pdr_id a) (word its.pdr_id b)
-  unfolding same_id repeats has_tag
-  id_15 h = rw (← e, h) (or-false _)
-
-  pub id_127 : word its.tag a ≡ ie.create_endpoint → same_id a b ≡ eqb (word its.endpoint_id a) (word its.endpoint_id b)
-  unfolding same_id repeats has_tag
-  id_127 h = rw (← e, h) (or-false _)
-
-  pub id_130 : word its.tag a ≡ ie.remove_endpoint → same_id a b ≡ eqb (word its.endpoint_id a) (word its.endpoint_id b)
-  unfolding same_id repeats has_tag
-  id_130 h = rw (← e, h) (or-false _)
-
--- a row of no type that has an ID
-pub id_other : (a b : List ℕ) → (word its.tag a ≡ ie.create_pdr → ⊥) → (word its.tag a ≡ ie.update_pdr → ⊥) → (word its.tag a ≡ ie.remove_pdr → ⊥) → (word its.tag a ≡ ie.create_endpoint → ⊥) → (word its.tag a ≡ ie.remove_endpoint → ⊥) → same_id a b ≡ false
-unfolding same_id repeats
-id_other a b h1 h9 h15 h127 h130 = rw (tag_no a ie.remove_pdr h15, tag_no a ie.remove_endpoint h130, tag_no a ie.create_pdr h1, tag_no a ie.create_endpoint h127, tag_no a ie.update_pdr h9)
-
--- ---- all rules on two rows
-
-pub disagree_id : (a b : List ℕ) → same_id a b ≡ true → disagree a b ≡ true
-unfolding disagree
-disagree_id a b h = rw h
-
-pub disagree_choice : (a b : List ℕ) → same_id a b ≡ false → other_choice a b ≡ true → disagree a b ≡ true
-unfolding disagree
-disagree_choice a b h g = rw (h, g)
-
-pub disagree_hold : (a b : List ℕ) → same_id a b ≡ false → other_choice a b ≡ false → disagree a b ≡ other_hold a b
-unfolding disagree
-disagree_hold a b h g = rw (h, g) (or-false (other_hold a b))
-
 -- ---- a CHOOSE ID is there where a CHOOSE has the bit
 
-pub id_none : (row : List ℕ) → is_some (row_choice row) ≡ false → is_some (row_choose_id row) ≡ false
-id_none row h = rw (choose_id_row row, sym (chooses_some row) ∙ h)
-
-pub id_bit : (row : List ℕ) → is_some (row_choice row) ≡ true → is_some (row_choose_id row) ≡ bit 3 (word its.flags row)
-id_bit row h = rw (choose_id_row row, sym (chooses_some row) ∙ h) (one (bit 3 (word its.flags row)))
+pub id_row : (row : List ℕ) → is_some (row_choose_id row) ≡ (is_some (row_choice row) && bit 3 (word its.flags row))
+id_row row = rw (choose_id_row row, chooses_some row) (one ((has_fteid row && bit 2 (word its.flags row)) && bit 3 (word its.flags row)))
   where
     one : (b : Bool) → is_some (pick b (some (word its.choose_id row)) none) ≡ b
     one true = refl

@@ -1,110 +1,22 @@
 -- A row's UE IP Address (02 (v)) by its words: what the rules say of it, and of the addresses of the request that rows mean. Assumes nothing.
-use mathlib.Core.Path.{◌≡◌, refl, sym, ap, ap₂, ◌∙◌}
-use mathlib.Core.Bool.{Bool, true, false, not, ◌&&◌, ◌||◌, and-false}
+use mathlib.Core.Path.{◌≡◌, refl, ap, ap₂, ◌∙◌}
+use mathlib.Core.Bool.{Bool, true, false, ◌&&◌, ◌||◌}
 use mathlib.Core.Option.{none, some}
 use mathlib.Core.List.{List, map}
-use Prim.Native.Nat.{ℕ, ◌-◌}
+use Prim.Native.Nat.{ℕ}
 use native.Mathlib.Decide.{ℕ_discrete}
-use lib.Dec.{eqb, ltb}
+use lib.Dec.{eqb}
 use borrow.Author.Tests.{ne_eqb}
 use Rattle.octets.specs.Choice.{pick}
 use Rattle.octets.specs.Lists.{any, keep, collect}
 use Rattle.octets.specs.Rows.{has_tag}
-use Rattle.rules.specs.Model.{in_address_pool}
-use Rattle.rules.specs.Elements.{UeIp, ue_given, ue_choose, ue_other, ue_address_of, ue_chooses}
-use Rattle.rules.specs.Stages.{addresses_of, new_pdr_address, new_endpoint_address, wrong_address}
+use Rattle.rules.specs.Elements.{UeIp, ue_given, ue_choose, ue_other, ue_chooses}
+use Rattle.rules.specs.Stages.{addresses_of, new_pdr_address, new_endpoint_address}
 use Rattle.rules.specs.Types as ie
-use Rattle.rules.specs.Sound.{marked}
 use Rattle.plan.specs.Rows.{word, tagged, ue_from, row_ue, row_pdr, row_endpoint, request_in}
 use Rattle.plan.specs.Words as its
-use Rattle.unit.specs.declared.Settings.{Settings as Unit}
-use Rattle.unit.specs.Meaning.{settings_of}
-use Rattle.plan.specs.RowRules.{on_some, creates, of_address, of_ue_kind, takes_address, marked_address, in_range}
+use Rattle.plan.specs.RowRules.{on_some, creates, of_address, of_ue_kind}
 use Rattle.plan.proofs.ListLaws.{any_ext, any_or, any_append, any_keep, any_map, any_collect}
-use Rattle.plan.proofs.RowTests.{tag_yes}
-
--- ---- one row
-
-module _ (row : List ℕ) where
-  pub creates_endpoint_lem : word its.tag row ≡ ie.create_endpoint → true ≡ creates row
-  unfolding creates
-  creates_endpoint_lem h = rw (tag_yes row ie.create_endpoint h)
-
-  pub creates_pdr_lem : (word its.tag row ≡ ie.create_endpoint → ⊥) → eqb (word its.tag row) ie.create_pdr ≡ creates row
-  unfolding creates has_tag
-  creates_pdr_lem h = rw (ne_eqb (word its.tag row) ie.create_endpoint h)
-
-  -- a CHOOSE, or one that is not supported
-  pub kind_none : (choose : Bool) → creates row ≡ false → false ≡ of_ue_kind choose row
-  unfolding of_ue_kind
-  kind_none choose h = rw h
-
-  pub kind_is_lem : (choose : Bool) → creates row ≡ true → of_ue_kind choose row ≡ pick choose (eqb (word its.ue_kind row) 2) (ltb 2 (word its.ue_kind row))
-  unfolding of_ue_kind
-  kind_is_lem choose h = rw h
-
-  -- a test of the address
-  pub address_none : (p : UeIp → Bool) → creates row ≡ false → false ≡ of_address p row
-  unfolding of_address
-  address_none p h = rw h
-
-  module _ (p : UeIp → Bool) (h : creates row ≡ true) where
-    pub address_chosen : word its.ue_kind row ≡ 2 → of_address p row ≡ p ue_choose
-    unfolding of_address row_ue ue_from on_some
-    address_chosen e = rw (h, e)
-
-    pub address_given : word its.ue_kind row ≡ 1 → of_address p row ≡ p (ue_given (word its.ue_address row))
-    unfolding of_address row_ue ue_from on_some
-    address_given e = rw (h, e)
-
-    pub address_other : p ue_choose ≡ false → p ue_other ≡ false → (word its.ue_kind row ≡ 1 → ⊥) → false ≡ of_address p row
-    unfolding of_address row_ue ue_from on_some
-    address_other c o n = rw (h, ne_eqb (word its.ue_kind row) 1 n) (one (eqb (word its.ue_kind row) 0) (eqb (word its.ue_kind row) 2))
-      where
-        one : (a b : Bool) → false ≡ on_some p (pick a none (some (pick b ue_choose ue_other)))
-        one true b = refl
-        one false true = sym c
-        one false false = sym o
-
-    pub address_neither : p ue_other ≡ false → (word its.ue_kind row ≡ 2 → ⊥) → (word its.ue_kind row ≡ 1 → ⊥) → false ≡ of_address p row
-    unfolding of_address row_ue ue_from on_some
-    address_neither o n m = rw (h, ne_eqb (word its.ue_kind row) 2 n, ne_eqb (word its.ue_kind row) 1 m) (one (eqb (word its.ue_kind row) 0))
-      where
-        one : (a : Bool) → false ≡ on_some p (pick a none (some ue_other))
-        one true = refl
-        one false = sym o
-
--- the pool
-module _ (u : Unit) (row : List ℕ) (h : creates row ≡ true) where
-  pub wrong_chosen : (restoring : Bool) → word its.ue_kind row ≡ 2 → restoring ≡ of_address (wrong_address (settings_of u) restoring) row
-  unfolding wrong_address
-  wrong_chosen restoring e = sym (address_chosen row (wrong_address (settings_of u) restoring) h e)
-
-  pub wrong_neither : (restoring : Bool) → (word its.ue_kind row ≡ 2 → ⊥) → (word its.ue_kind row ≡ 1 → ⊥) → false ≡ of_address (wrong_address (settings_of u) restoring) row
-  unfolding wrong_address
-  wrong_neither restoring n m = address_neither row (wrong_address (settings_of u) restoring) h refl n m
-
-  pub wrong_restored : (restoring : Bool) → word its.ue_kind row ≡ 1 → restoring ≡ true → false ≡ of_address (wrong_address (settings_of u) restoring) row
-  unfolding wrong_address
-  wrong_restored restoring e r = sym (address_given row (wrong_address (settings_of u) restoring) h e ∙ rw r (and-false (in_address_pool (settings_of u) (word its.ue_address row))))
-
-  pub wrong_given : (restoring : Bool) (o : Bool) → word its.ue_kind row ≡ 1 → restoring ≡ false → o ≡ not (in_range u.first_address u.addresses (word its.ue_address row))
-      → not o ≡ of_address (wrong_address (settings_of u) restoring) row
-  unfolding wrong_address in_address_pool settings_of
-  wrong_given restoring o e r f = ap not f ∙ one (in_range u.first_address u.addresses (word its.ue_address row)) ∙ sym (address_given row (wrong_address (settings_of u) restoring) h e ∙ rw r)
-    where
-      one : (b : Bool) → not (not b) ≡ (b && true)
-      one true = refl
-      one false = refl
-
-  pub taken_other : (held : ℕ → Bool) → (word its.ue_kind row ≡ 1 → ⊥) → false ≡ of_address (takes_address (settings_of u) held) row
-  unfolding takes_address ue_address_of on_some
-  taken_other held n = address_other row (takes_address (settings_of u) held) h refl refl n
-
-  pub taken_given : (words : List ℕ) → word its.ue_kind row ≡ 1
-      → (in_range u.first_address u.addresses (word its.ue_address row) && marked words (word its.ue_address row - u.first_address)) ≡ of_address (takes_address (settings_of u) (marked_address (settings_of u) words)) row
-  unfolding takes_address ue_address_of on_some in_address_pool settings_of
-  taken_given words e = sym (address_given row (takes_address (settings_of u) (marked_address (settings_of u) words)) h e)
 
 -- ---- the addresses of a request
 

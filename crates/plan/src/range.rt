@@ -7,10 +7,7 @@ ghost use Rattle.rules.specs.Sound.{marked};
 pub fn outside(n: u64, first: u64, size: u64) -> bool
     ensures { result ≡ not (in_range first size n) }
 {
-    if n < first {
-        return true;
-    }
-    size <= n - first
+    n < first || size <= n - first
 }
 
 // Is it a number of the pool that the map has marked?
@@ -18,8 +15,5 @@ pub fn is_taken(n: u64, first: u64, size: u64, taken: &[u64]) -> bool
     requires { size ≤ 64 * length taken.now }
     ensures { result ≡ (in_range first size n && marked taken.now (n - first)) }
 {
-    if outside(n, first, size) {
-        return false;
-    }
-    pool::is_marked(taken, (n - first) as usize)
+    !outside(n, first, size) && pool::is_marked(taken, (n - first) as usize)
 }

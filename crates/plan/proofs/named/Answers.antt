@@ -1,35 +1,11 @@
--- `plan::named` meets its contract. The rows that are left give the same answer. Assumes nothing.
-use mathlib.Core.Path.{sym, ◌∙◌}
-use native.Mathlib.Omega.{arith}
-use Rattle.plan.specs.Rows.{row_width}
-use Rattle.plan.proofs.WalkLaws.{member_column, any_none, any_hit, any_miss, row_length, rest_length}
-use borrow.Author.Rules.{rules}
+-- `plan::named` meets its contract. Assumes nothing.
+use Rattle.std.proofs.Common.{rules, sym, ◌∙◌}
+use borrow.Author.Tests.{tests}
+use Rattle.plan.proofs.ChainLaws.{any_ran}
+use Rattle.plan.proofs.WalkLaws.{is_named, member_column}
 use Rattle.plan.proofs.named.Goals as goal
 
-pub loop-left-init : goal.loop-left-init
-loop-left-init c = (search rules, sym (member_column _ _ _ _))
-
-pub slice_bounds-is_named-end : goal.slice_bounds-is_named-end
-slice_bounds-is_named-end c =
-    let l = c.loop-left in
-    sym (row_length row_width l.rest.now l.left c.loop-left-test.true l.invariant.0)
-
-pub is_named-requires : goal.is_named-requires
-is_named-requires c =
-    let l = c.loop-left in
-    (row_length row_width l.rest.now l.left c.loop-left-test.true l.invariant.0, search rules)
-
-pub returns-then-is_named : goal.returns-then-is_named
-returns-then-is_named c =
-    sym (any_hit _ _ _ _ c.loop-left-test.true (sym c.is_named.ensures ∙ c.if-is_named.true)) ∙ c.loop-left.invariant.1
-
-pub slice_bounds-rest-count : goal.slice_bounds-rest-count
-slice_bounds-rest-count c = omega arith
-
-pub loop-left-preserved : goal.loop-left-preserved
-loop-left-preserved c =
-    let l = c.loop-left in
-    (rest_length row_width l.rest.now l.left c.loop-left-test.true l.invariant.0, any_miss _ _ _ _ c.loop-left-test.true (sym c.is_named.ensures ∙ c.if-is_named.false) ∙ l.invariant.1)
-
 pub returns : goal.returns
-returns c = sym (any_none _ _ _ _ c.loop-left-test.false) ∙ c.loop-left.invariant.1
+returns c =
+    let a = c.args in
+    any_ran (is_named a.tag a.field a.x) _ _ c.any.result c.any.ensures.ran (search rules) (λ x b q k. search (rules, tests)) ∙ sym (member_column _ _ _ _)

@@ -1,35 +1,9 @@
--- `plan::some_address` meets its contract. The rows that are left give the same answer. Assumes nothing.
-use mathlib.Core.Path.{refl, sym, ◌∙◌}
-use native.Mathlib.Omega.{arith}
-use Rattle.plan.specs.Rows.{row_width}
-use Rattle.plan.proofs.WalkLaws.{any_none, any_hit, any_miss, row_length, rest_length}
-use borrow.Author.Rules.{rules}
+-- `plan::some_address` meets its contract. Assumes nothing.
+use Rattle.std.proofs.Common.{rules}
+use borrow.Author.Tests.{tests}
+use Rattle.plan.proofs.ChainLaws.{any_ran}
+use Rattle.plan.specs.RowRules.{of_ue_kind}
 use Rattle.plan.proofs.some_address.Goals as goal
 
-pub loop-left-init : goal.loop-left-init
-loop-left-init c = (search rules, refl)
-
-pub slice_bounds-is_kind-end : goal.slice_bounds-is_kind-end
-slice_bounds-is_kind-end c =
-    let l = c.loop-left in
-    sym (row_length row_width l.rest.now l.left c.loop-left-test.true l.invariant.0)
-
-pub is_kind-requires : goal.is_kind-requires
-is_kind-requires c =
-    let l = c.loop-left in
-    row_length row_width l.rest.now l.left c.loop-left-test.true l.invariant.0
-
-pub returns-then-is_kind : goal.returns-then-is_kind
-returns-then-is_kind c =
-    sym (any_hit _ _ _ _ c.loop-left-test.true (sym c.is_kind.ensures ∙ c.if-is_kind.true)) ∙ c.loop-left.invariant.1
-
-pub slice_bounds-rest-count : goal.slice_bounds-rest-count
-slice_bounds-rest-count c = omega arith
-
-pub loop-left-preserved : goal.loop-left-preserved
-loop-left-preserved c =
-    let l = c.loop-left in
-    (rest_length row_width l.rest.now l.left c.loop-left-test.true l.invariant.0, any_miss _ _ _ _ c.loop-left-test.true (sym c.is_kind.ensures ∙ c.if-is_kind.false) ∙ l.invariant.1)
-
 pub returns : goal.returns
-returns c = sym (any_none _ _ _ _ c.loop-left-test.false) ∙ c.loop-left.invariant.1
+returns c = any_ran (of_ue_kind c.args.choose) _ _ _ c.any.ensures.ran (search rules) (λ x b q k. search (rules, tests))
