@@ -41,9 +41,17 @@ pub any_ran : {A F : Type 0} {g : Mut F (Bor A × Unit {0}) Bool} {s : Iter A} {
     → ((x : Bor A) (b : Bool) (q : F) → Called g f (x, tt) b q → (q ≡ f) × (b ≡ test x.now)) → r ≡ any test xs
 any_ran {xs} test u f r ran from each = any_from_yields_List test u f r ran (YieldsList-from_slice xs from) each ∙ sym (any_is test xs)
 
--- the first rows of a plan
-pub chunks_taken : (w n m : ℕ) (xs : List ℕ) → n ≤ m → take n (first_chunks w m xs) ≡ slices w n xs
-unfolding slices
+-- the first n chunks of more, and of numbers as slices
+pub chunks_taken : {A : Type 0} (w n m : ℕ) (xs : List A) → n ≤ m → take n (first_chunks w m xs) ≡ first_chunks w n xs
 chunks_taken w zero m xs h = refl
 chunks_taken w (suc n) zero xs h = absurd (omega arith)
-chunks_taken w (suc n) (suc m) xs h = ap (λ (t : List (List ℕ)). take w xs ∷ t) (chunks_taken w n m (drop w xs) (omega arith))
+chunks_taken {A} w (suc n) (suc m) xs h = ap (λ (t : List (List A)). take w xs ∷ t) (chunks_taken w n m (drop w xs) (omega arith))
+
+pub chunks_slices : (w n : ℕ) (xs : List ℕ) → first_chunks w n xs ≡ slices w n xs
+unfolding slices
+chunks_slices w zero xs = refl
+chunks_slices w (suc n) xs = ap (λ (t : List (List ℕ)). take w xs ∷ t) (chunks_slices w n (drop w xs))
+
+pub length_chunks : {A : Type 0} (w n : ℕ) (xs : List A) → length (first_chunks w n xs) ≡ n
+length_chunks w zero xs = refl
+length_chunks w (suc n) xs = ap suc (length_chunks w n (drop w xs))

@@ -7,7 +7,6 @@ pub mod TunnelLaws
 pub mod UeLaws
 pub mod PairLaws
 pub mod AloneLaws
-pub mod WalkLaws
 pub mod RequestLaws
 pub mod MergeLaws
 pub mod NeedLaws

@@ -193,3 +193,6 @@ id_row row = rw (choose_id_row row, chooses_some row) (one ((has_fteid row && bi
     one : (b : Bool) → is_some (pick b (some (word its.choose_id row)) none) ≡ b
     one true = refl
     one false = refl
+
+-- each rule, as code asks it
+pub ruleset pair_rules = (alike_row, shares_row, id_row, choice_rows, same_row, hold_rows)

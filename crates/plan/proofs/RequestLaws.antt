@@ -16,7 +16,7 @@ use Rattle.plan.specs.Words as its
 use Rattle.plan.specs.RowRules.{on_some, creates, has_fteid, of_fteid, of_ue_kind}
 use Rattle.plan.proofs.ListLaws.{any_ext, any_or, any_append, any_keep, any_map, any_collect}
 use Rattle.plan.proofs.UeLaws.{either}
-use Rattle.plan.proofs.WalkLaws.{is_named, member_column}
+use Rattle.plan.proofs.RowTests.{is_named, member_column}
 use Rattle.octets.proofs.Bools.{eqb_turn}
 
 -- ---- F-TEIDs

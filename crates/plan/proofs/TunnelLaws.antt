@@ -18,7 +18,7 @@ use Rattle.unit.specs.declared.Settings.{Settings as Unit}
 use Rattle.unit.specs.Meaning.{settings_of}
 use Rattle.plan.specs.RowRules.{has_fteid, of_fteid, row_holding, row_ipv4, row_ipv6, restores}
 use Rattle.plan.proofs.AddressLaws.{other_none, other_four, same_be}
-use Rattle.plan.proofs.FteidLaws.{chooses_row, v6_row, given_row, row_is, fteid_by, hold_of, holding_row, restores_row}
+use Rattle.plan.proofs.FteidLaws.{chooses_row, v6_row, given_row, row_is, fteid_by, hold_of, holding_row, restores_row, chooses_some}
 use Rattle.plan.proofs.RowTests.{of_none, of_some, bit_zero}
 
 -- cause 71
@@ -140,3 +140,6 @@ held_row held row = rw (holding_row row) (one (has_fteid row && not (bit 2 (word
     one : (b : Bool) → restores held (pick b (some (hold_of row)) none) ≡ (is_some (pick b (some (hold_of row)) none) && held (word its.teid row))
     one true = refl
     one false = refl
+
+-- each rule, as code asks it
+pub ruleset fteid_rules = (chooses_some, restores_row, wrong_row, lacks_row, four_row, six_row, strange_row, held_row)

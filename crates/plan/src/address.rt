@@ -7,7 +7,7 @@ ghost use Rattle.unit.specs.Meaning.{settings_of};
 ghost use Rattle.plan.specs.RowRules.{creates, of_address, of_ue_kind, takes_address, marked_address};
 
 use crate::range;
-use format::{types, words, Row};
+use format::{Row, types, words};
 use unit::Settings;
 
 // Does the row create a record?

@@ -3,26 +3,35 @@
 #![tactic(auto)]
 
 ghost use Rattle.std.specs.Prelude.{◌≡◌, false, ◌&&◌, ◌*◌, ◌≤◌, ◌<◌, eqb, length};
+ghost use Rattle.std.specs.Simd.{first_chunks};
 ghost use Rattle.octets.specs.Lists.{member, any};
 ghost use Rattle.octets.specs.Rows.{has_tag, column};
 ghost use Rattle.rules.specs.Stages.{invalid_allocation, needed};
 ghost use Rattle.plan.specs.Rows.{row_width, word, tagged, rows_of, request_in};
 ghost use Rattle.plan.specs.RowRules.{request_of, of_ue_kind, same_id, disagree, shares_choice, same_teid, counted};
 
-use format::{types, words, Row};
+use format::{Row, types, words};
 
 pub mod address;
 pub mod pair;
 pub mod range;
 pub mod tunnel;
 
+// The first n arrays of N elements in a slice.
+pub fn arrays<T, const N: usize>(s: &[T], n: usize) -> &[[T; N]]
+    requires { (0 < N) × (n * N ≤ length s.now) }
+    ensures { result.now ≡ first_chunks N n s.now }
+{
+    let (whole, _) = s.as_chunks::<N>();
+    &whole[..n]
+}
+
 // The n rows of a plan.
 pub fn rows(plan: &[u64], n: usize) -> &[Row]
     requires { n * row_width ≤ length plan.now }
     ensures { result.now ≡ rows_of n plan.now }
 {
-    let (rows, _) = plan.as_chunks::<{ format::ROW }>();
-    &rows[..n]
+    arrays(plan, n)
 }
 
 // Does a row have this tag, and x at place field?
@@ -54,7 +63,8 @@ pub fn count(rows: &[Row], tag: u64) -> usize
 pub fn invalid_allocation(rows: &[Row], restoring: bool) -> bool
     ensures { result ≡ invalid_allocation (request_of restoring rows.now) }
 {
-    rows.iter().any(|row| tunnel::wrong_allocation(row, restoring))
+    rows.iter()
+        .any(|row| tunnel::wrong_allocation(row, restoring))
 }
 
 // Has one of the rows a CHOOSE of an address, or else an address that is not supported?

@@ -1,12 +1,12 @@
 // Two rows of a plan, a before b: the rules of cause 73 that speak of two elements, and CHOOSE IDs that are equal.
-#![tactic(auto, using(crate::proofs::PairLaws::alike_row, crate::proofs::PairLaws::shares_row, crate::proofs::PairLaws::id_row, crate::proofs::PairLaws::choice_rows, crate::proofs::PairLaws::same_row, crate::proofs::PairLaws::hold_rows), unfolding(crate::specs::RowRules::same_id, crate::specs::RowRules::repeats, crate::specs::RowRules::disagree, octets::specs::Rows::has_tag, octets::specs::Octets::bit))]
+#![tactic(auto, using(crate::proofs::PairLaws::pair_rules), unfolding(crate::specs::RowRules::same_id, crate::specs::RowRules::repeats, crate::specs::RowRules::disagree, octets::specs::Rows::has_tag, octets::specs::Octets::bit))]
 
 ghost use Rattle.std.specs.Prelude.{◌≡◌, not, ◌&&◌};
 ghost use Rattle.octets.specs.Choice.{is_some};
 ghost use Rattle.plan.specs.RowRules.{row_choose_id, row_holding, alike_rows, same_id, other_choice, other_hold, disagree, shares_choice, same_teid};
 
 use crate::tunnel;
-use format::{types, words, Row};
+use format::{Row, types, words};
 
 // An ID removed, created or updated twice.
 pub fn same_id(a: &Row, b: &Row) -> bool

@@ -1,5 +1,5 @@
 // The F-TEID of one row: flags at word 12 (V4 1, V6 2, CH 4, CHID 8), then TEID, IPv4 address, IPv6 address in two words, CHOOSE ID.
-#![tactic(auto, using(crate::proofs::FteidLaws::chooses_some, crate::proofs::FteidLaws::restores_row, crate::proofs::TunnelLaws::wrong_row, crate::proofs::TunnelLaws::lacks_row, crate::proofs::TunnelLaws::four_row, crate::proofs::TunnelLaws::six_row, crate::proofs::TunnelLaws::strange_row, crate::proofs::TunnelLaws::held_row), unfolding(crate::specs::RowRules::has_fteid, crate::specs::RowRules::held_in, octets::specs::Rows::has_tag, octets::specs::Octets::bit, rules::specs::Sound::in_pool, unit::specs::Meaning::settings_of))]
+#![tactic(auto, using(crate::proofs::TunnelLaws::fteid_rules), unfolding(crate::specs::RowRules::has_fteid, crate::specs::RowRules::held_in, octets::specs::Rows::has_tag, octets::specs::Octets::bit, rules::specs::Sound::in_pool, unit::specs::Meaning::settings_of))]
 
 ghost use Rattle.std.specs.Prelude.{◌≡◌, ◌*◌, ◌≤◌, length};
 ghost use Rattle.octets.specs.Choice.{is_some};
@@ -8,7 +8,7 @@ ghost use Rattle.plan.specs.RowRules.{has_fteid, of_fteid, row_ipv4, row_ipv6, r
 ghost use Rattle.unit.specs.Meaning.{settings_of};
 
 use crate::range;
-use format::{types, words, Row};
+use format::{Row, types, words};
 use unit::Settings;
 
 // Has the row an F-TEID? A Create Traffic Endpoint has one, a Create PDR if its flags say so.

@@ -20,7 +20,7 @@ use Rattle.plan.specs.RowRules.{on_some, request_of, of_fteid, creates, of_addre
 use Rattle.plan.proofs.ListLaws.{any_ext, any_or, any_keep, any_map, any_collect, any_in_lem, any_pair}
 use Rattle.plan.proofs.RequestLaws.{any_fteids}
 use Rattle.plan.proofs.UeLaws.{any_addresses}
-use Rattle.plan.proofs.TunnelLaws.{held_none, held_some, strange_some}
+use Rattle.plan.proofs.TunnelLaws.{held_row, strange_some}
 use Rattle.stages.specs.RowRules.{creates_live, names_dead, updates_gone, pdi_names_both, pdi_names_absent, breaks_id, breaks_fteid, breaks_address, breaks_row, some_row}
 use Rattle.stages.specs.Rules.{clash_by, breaks_rule_by}
 use Rattle.stages.proofs.RuleLaws.{any_ones, pair_ones, twice_rows, created_rows, dead_rows, updates_rows, both_rows, absent_rows, choices_rows, held_rows, shared_rows}
@@ -142,15 +142,15 @@ rule_by s m x r =
 module _ (held other : ℕ → Bool) (s : Settings) (alike : (t : ℕ) → in_pool s t ≡ true → held t ≡ other t) where
   -- a row with a TEID outside the pool breaks another rule
   restores_same : (row : List ℕ) → of_fteid (strange s) row ≡ false → restores held (row_holding row) ≡ restores other (row_holding row)
-  restores_same row h = one (is_some (row_holding row)) refl
+  restores_same row h = held_row held row ∙ one (is_some (row_holding row)) refl ∙ sym (held_row other row)
     where
       inside : (a b c : Bool) → ((not a || b) || c) ≡ false → a ≡ true
       inside true b c e = refl
       inside false b c e = absurd (false≢true (sym e))
 
-      one : (b : Bool) → is_some (row_holding row) ≡ b → restores held (row_holding row) ≡ restores other (row_holding row)
-      one false e = held_none held row e ∙ sym (held_none other row e)
-      one true e = held_some held row e ∙ alike (word its.teid row) (inside (in_pool s (word its.teid row)) _ _ (sym (strange_some s row e) ∙ h)) ∙ sym (held_some other row e)
+      one : (b : Bool) → is_some (row_holding row) ≡ b → (is_some (row_holding row) && held (word its.teid row)) ≡ (is_some (row_holding row) && other (word its.teid row))
+      one false e = rw e
+      one true e = rw e (alike (word its.teid row) (inside (in_pool s (word its.teid row)) _ _ (sym (strange_some s row e) ∙ h)))
 
   fteid_same : (row : List ℕ) → breaks_fteid held s row ≡ breaks_fteid other s row
   unfolding breaks_fteid

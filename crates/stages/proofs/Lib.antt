@@ -1,6 +1,5 @@
 pub mod IdLaws
 pub mod SlotLaws
-pub mod BreakLaws
 pub mod CountLaws
 pub mod RuleLaws
 pub mod CauseLaws

@@ -1,21 +1,24 @@
 -- The session at entry by its slot's octets: the IDs of its records, and of the PDRs that go. Assumes nothing.
 use mathlib.Core.Path.{◌≡◌, refl, sym, ap, ap₂, ◌∙◌}
-use mathlib.Core.Bool.{Bool, true, false, ◌||◌}
+use mathlib.Core.Bool.{Bool, true, false, ◌&&◌, ◌||◌}
 use mathlib.Core.Option.{Option, none, some}
 use mathlib.Core.List.{List, [], ◌∷◌, map, map-map}
-use Prim.Native.Nat.{ℕ, ◌-◌, ◌*◌, ◌≤◌, ◌<◌}
-use native.Mathlib.Omega.{arith}
+use Prim.Native.Nat.{ℕ, suc, ◌+◌, ◌-◌, ◌≤◌, ◌<◌}
 use lib.Dec.{eqb}
-use lib.ListN.{length, take, drop, get_or, replicate, length-drop, length-map}
-use lib.Seq.{take-take, sets}
+use lib.ListN.{length, take, drop, get_or, set, replicate, length-map}
+use Rattle.std.proofs.Common.{add-one}
+use Rattle.std.proofs.lemmas.List.{drop_all}
+use Rattle.std.specs.Simd.{first_chunks}
+use Rattle.plan.proofs.ChainLaws.{chunks_slices}
+use lib.Seq.{sets, drop-cons}
+use native.Mathlib.Decide.{ℕ_discrete}
 use borrow.Author.Tests.{ne_eqb}
 use Rattle.octets.specs.Choice.{pick}
 use Rattle.octets.specs.Octets.{number, number_at, part, octet_at, slices}
 use Rattle.octets.specs.Fields.{fields_at}
 use Rattle.octets.specs.Lists.{member, keep}
-use Rattle.octets.proofs.Numbers.{length_slices, slices_next}
+use Rattle.octets.proofs.Numbers.{length_slices}
 use Rattle.octets.specs.Rows.{column}
-use Rattle.octets.proofs.RowLaws.{rows_none}
 use Rattle.octets.proofs.Loops.{left_part, stored}
 use Rattle.rules.specs.Model.{Pdr, neither, tunnel, endpoint, pdr_id, endpoint_id, pdr_endpoint, matched_endpoint}
 use Rattle.rules.specs.Layout.{tunnel_read, match_read, pdr_from, endpoint_from, view_pdr, view_endpoint, view_area, view_session, pdr_width, endpoint_width, pdr_count_at, endpoint_count_at, pdrs_at, endpoints_at, match_at, teid_at, families_at, named_endpoint_at}
@@ -34,15 +37,10 @@ use Rattle.stages.specs.Rules.{Slot}
 abbrev pub ids_in : ℕ → ℕ → ℕ → List ℕ → List ℕ
 ids_in width idw n area = map (number_at 0 idw) (slices width n area)
 
-pub ids_none : (width idw n : ℕ) (s : List ℕ) → n ≤ 0 → ids_in width idw n s ≡ []
-ids_none width idw n s h =
-    let e : n ≡ 0 = omega arith in
-    rw (e, rows_none width s)
-
-pub ids_more : (width idw n : ℕ) (s : List ℕ) → 0 < n → idw ≤ width
-    → ids_in width idw n s ≡ number (part 0 idw s) ∷ ids_in width idw (n - 1) (take (length s - width) (drop width s))
-unfolding number_at
-ids_more width idw n s h g = rw (slices_next width n s h, left_part s width) (ap (λ (l : List ℕ). number l ∷ ids_in width idw (n - 1) (drop width s)) (take-take idw width s g))
+-- a list stored from place k on, and the element that comes next
+pub sets_left : (f : List ℕ → ℕ) (records : List (List ℕ)) (k : ℕ) (out one : List ℕ) (v : ℕ) → k < length records → one ≡ get_or records k one → v ≡ f one
+    → sets (set out k v) (k + 1) (map f (drop (k + 1) records)) ≡ sets out k (map f (drop k records))
+sets_left f records k out one v h is e = rw (add-one, drop-cons records k one h, ← is, e)
 
 pub live_pdrs_lem : (slot : List ℕ) → live_pdrs (view_session slot) ≡ ids_in pdr_width 2 (get_or slot pdr_count_at 0) (drop pdrs_at slot)
 unfolding live_pdrs view_session view_area view_pdr pdr_from fields_at number_at octet_at
@@ -80,18 +78,14 @@ module _ (rows : List (List ℕ)) (pdr : List ℕ) where
       ap₂ (λ (g e : List ℕ). member (view_pdr pdr).id g || names_one_of e (pdr_endpoint (view_pdr pdr))) (gone_pdrs_lem 0 false false rows) (gone_endpoints_lem 0 false false rows)
       ∙ ap (λ (k : ℕ). member k (column ie.remove_pdr its.pdr_id rows) || names_one_of (column ie.remove_endpoint its.endpoint_id rows) (pdr_endpoint (view_pdr pdr))) (id_is pdr)
 
-  module _ (id : ℕ) (e : id ≡ number (part 0 2 pdr)) where
-    pub goes_named : member id (column ie.remove_pdr its.pdr_id rows) ≡ true → goes_pdr (request_of false rows) (view_pdr pdr) ≡ true
-    goes_named h = goes_is ∙ rw (← e, h)
-
-    module _ (h : member id (column ie.remove_pdr its.pdr_id rows) ≡ false) where
-      pub goes_not : (get_or pdr match_at 0 ≡ 2 → ⊥) → goes_pdr (request_of false rows) (view_pdr pdr) ≡ false
-      unfolding names_one_of
-      goes_not g = goes_is ∙ rw (← e, h, match_is, ne_eqb (get_or pdr match_at 0) 2 g, none_none (eqb (get_or pdr match_at 0) 1))
-
-      pub goes_along : get_or pdr match_at 0 ≡ 2 → goes_pdr (request_of false rows) (view_pdr pdr) ≡ member (get_or pdr named_endpoint_at 0) (column ie.remove_endpoint its.endpoint_id rows)
-      unfolding names_one_of
-      goes_along g = goes_is ∙ rw (← e, h, match_is, g)
+  pub goes_row : goes_pdr (request_of false rows) (view_pdr pdr)
+      ≡ (member (number (part 0 2 pdr)) (column ie.remove_pdr its.pdr_id rows) || (eqb (get_or pdr match_at 0) 2 && member (get_or pdr named_endpoint_at 0) (column ie.remove_endpoint its.endpoint_id rows)))
+  unfolding names_one_of
+  goes_row = goes_is ∙ rw match_is (ap (λ (b : Bool). member (number (part 0 2 pdr)) (column ie.remove_pdr its.pdr_id rows) || b) (one (get_or pdr match_at 0) (ℕ_discrete (get_or pdr match_at 0) 2)))
+    where
+      one : (m : ℕ) → Dec (m ≡ 2) → names_one_of (column ie.remove_endpoint its.endpoint_id rows) (pick (eqb m 1) none (pick (eqb m 2) (some (get_or pdr named_endpoint_at 0)) none)) ≡ (eqb m 2 && member (get_or pdr named_endpoint_at 0) (column ie.remove_endpoint its.endpoint_id rows))
+      one m (yes e) = rw e
+      one m (no n) = rw (ne_eqb m 2 n, none_none (eqb m 1))
 
 -- ---- the IDs of the PDRs that go
 
@@ -100,54 +94,58 @@ pub removed_rows : (seid : ℕ) (restoring noted : Bool) (rows : List (List ℕ)
 unfolding removed_pdrs goes_pdr request_in
 removed_rows seid restoring noted rows ps = refl
 
-module _ (rows : List (List ℕ)) where
-  -- among the PDRs of an area's octets
-  abbrev pub gone_in : ℕ → List ℕ → List ℕ
-  gone_in n area = removed_pdrs (request_of false rows) (map view_pdr (slices pdr_width n area))
-
-  pub gone_none : (s : List ℕ) (left : ℕ) → left ≤ 0 → gone_in left s ≡ []
-  unfolding removed_pdrs keep
-  gone_none s left h =
-      let e : left ≡ 0 = omega arith in
-      rw (e, rows_none pdr_width s)
-
-  gone_first : (s : List ℕ) (left : ℕ) → 0 < left
-      → gone_in left s ≡ map pdr_id (pick (goes_pdr (request_of false rows) (view_pdr (take pdr_width s))) (view_pdr (take pdr_width s) ∷ keep (goes_pdr (request_of false rows)) (map view_pdr (slices pdr_width (left - 1) (drop pdr_width s)))) (keep (goes_pdr (request_of false rows)) (map view_pdr (slices pdr_width (left - 1) (drop pdr_width s)))))
-  unfolding removed_pdrs keep
-  gone_first s left h = rw (slices_next pdr_width left s h)
-
-  module _ (s : List ℕ) (left : ℕ) (h : 0 < left) where
-    pub gone_hit : goes_pdr (request_of false rows) (view_pdr (take pdr_width s)) ≡ true → gone_in left s ≡ number (part 0 2 (take pdr_width s)) ∷ gone_in (left - 1) (take (length s - pdr_width) (drop pdr_width s))
-    unfolding removed_pdrs
-    gone_hit e = gone_first s left h ∙ rw (e, left_part s pdr_width, ← id_is (take pdr_width s))
-
-    pub gone_miss : goes_pdr (request_of false rows) (view_pdr (take pdr_width s)) ≡ false → gone_in left s ≡ gone_in (left - 1) (take (length s - pdr_width) (drop pdr_width s))
-    unfolding removed_pdrs
-    gone_miss e = gone_first s left h ∙ rw (e, left_part s pdr_width)
-
-  pub gone_slot : (slot : List ℕ) → gone_in (get_or slot pdr_count_at 0) (take (length slot - pdrs_at) (drop pdrs_at slot)) ≡ removed_pdrs (request_of false rows) (view_session slot).pdrs
-  unfolding view_session view_area octet_at
-  gone_slot slot = rw (left_part slot pdrs_at)
-
-pub pdrs_fit_lem : (slot : List ℕ) → Slot slot → get_or slot pdr_count_at 0 * pdr_width ≤ length (take (length slot - pdrs_at) (drop pdrs_at slot))
-pdrs_fit_lem slot h = rw (left_part slot pdrs_at, length-drop pdrs_at slot) (omega arith)
-
--- ---- live IDs as they were stored in an array
-
 ids_length : (width idw n : ℕ) (s : List ℕ) → length (ids_in width idw n s) ≡ n
 ids_length width idw n s = length-map (slices width n s) (number_at 0 idw) ∙ length_slices width n s
 
-module _ (slot : List ℕ) (h : Slot slot) where
-  pub pdrs_stored : (out : List ℕ) → out ≡ sets (replicate 16 0) 0 (ids_in pdr_width 2 (get_or slot pdr_count_at 0) (take (length slot - pdrs_at) (drop pdrs_at slot))) → take (get_or slot pdr_count_at 0) out ≡ live_pdrs (view_session slot)
-  pdrs_stored out e =
-      stored (replicate 16 0) (ids_in pdr_width 2 (get_or slot pdr_count_at 0) (take (length slot - pdrs_at) (drop pdrs_at slot))) out (get_or slot pdr_count_at 0) (sym (ids_length pdr_width 2 (get_or slot pdr_count_at 0) _)) e
-      (rw (ids_length pdr_width 2 (get_or slot pdr_count_at 0) (take (length slot - pdrs_at) (drop pdrs_at slot))) h.pdrs)
-      ∙ ap (ids_in pdr_width 2 (get_or slot pdr_count_at 0)) (left_part slot pdrs_at)
+-- among PDRs' octets
+abbrev pub gone_in : List (List ℕ) → List (List ℕ) → List ℕ
+gone_in rows pdrs = removed_pdrs (request_of false rows) (map view_pdr pdrs)
+
+module _ (rows : List (List ℕ)) where
+  gone_first : (pdr : List ℕ) (pdrs : List (List ℕ)) → gone_in rows (pdr ∷ pdrs) ≡ pick (goes_pdr (request_of false rows) (view_pdr pdr)) (number (part 0 2 pdr) ∷ gone_in rows pdrs) (gone_in rows pdrs)
+  unfolding removed_pdrs keep
+  gone_first pdr pdrs = one (goes_pdr (request_of false rows) (view_pdr pdr))
+    where
+      later : List Pdr
+      later = keep (goes_pdr (request_of false rows)) (map view_pdr pdrs)
+
+      one : (b : Bool) → map pdr_id (pick b (view_pdr pdr ∷ later) later) ≡ pick b (number (part 0 2 pdr) ∷ map pdr_id later) (map pdr_id later)
+      one true = ap (λ (k : ℕ). k ∷ map pdr_id later) (id_is pdr)
+      one false = refl
+
+  -- those left from a place on
+  pub gone_none : (pdrs : List (List ℕ)) (i : ℕ) → length pdrs ≤ i → gone_in rows (drop i pdrs) ≡ []
+  unfolding removed_pdrs keep
+  gone_none pdrs i h = rw (drop_all i pdrs h)
+
+  module _ (pdrs : List (List ℕ)) (i : ℕ) (h : i < length pdrs) where
+    pub gone_hit : goes_pdr (request_of false rows) (view_pdr (get_or pdrs i [])) ≡ true → gone_in rows (drop i pdrs) ≡ number (part 0 2 (get_or pdrs i [])) ∷ gone_in rows (drop (i + 1) pdrs)
+    gone_hit e = rw (add-one, drop-cons pdrs i [] h) (gone_first (get_or pdrs i []) (drop (suc i) pdrs) ∙ rw e)
+
+    pub gone_miss : goes_pdr (request_of false rows) (view_pdr (get_or pdrs i [])) ≡ false → gone_in rows (drop i pdrs) ≡ gone_in rows (drop (i + 1) pdrs)
+    gone_miss e = rw (add-one, drop-cons pdrs i [] h) (gone_first (get_or pdrs i []) (drop (suc i) pdrs) ∙ rw e)
+
+  pub gone_slot : (slot : List ℕ) → gone_in rows (slices pdr_width (get_or slot pdr_count_at 0) (drop pdrs_at slot)) ≡ removed_pdrs (request_of false rows) (view_session slot).pdrs
+  unfolding view_session view_area octet_at
+  gone_slot slot = refl
+
+-- ---- live IDs as they were stored in an array
+
+-- an area's records, as chunks of what stands from its place on
+pub area_records : (width n at : ℕ) (slot : List ℕ) → first_chunks width n (take (length slot - at) (drop at slot)) ≡ slices width n (drop at slot)
+area_records width n at slot = rw (left_part slot at) (chunks_slices width n (drop at slot))
+
+module _ (slot : List ℕ) (h : Slot slot) (records : List (List ℕ)) (out : List ℕ) where
+  pub pdrs_stored : records ≡ first_chunks pdr_width (get_or slot pdr_count_at 0) (take (length slot - pdrs_at) (drop pdrs_at slot)) → out ≡ sets (replicate 16 0) 0 (map (number_at 0 2) records) → take (get_or slot pdr_count_at 0) out ≡ live_pdrs (view_session slot)
+  pdrs_stored r e =
+      stored (replicate 16 0) (ids_in pdr_width 2 (get_or slot pdr_count_at 0) (drop pdrs_at slot)) out (get_or slot pdr_count_at 0) (sym (ids_length pdr_width 2 (get_or slot pdr_count_at 0) _))
+      (e ∙ ap (λ (rs : List (List ℕ)). sets (replicate 16 0) 0 (map (number_at 0 2) rs)) (r ∙ area_records pdr_width _ pdrs_at slot))
+      (rw (ids_length pdr_width 2 (get_or slot pdr_count_at 0) (drop pdrs_at slot)) h.pdrs)
       ∙ sym (live_pdrs_lem slot)
 
-  pub endpoints_stored : (out : List ℕ) → out ≡ sets (replicate 8 0) 0 (ids_in endpoint_width 1 (get_or slot endpoint_count_at 0) (take (length slot - endpoints_at) (drop endpoints_at slot))) → take (get_or slot endpoint_count_at 0) out ≡ live_endpoints (view_session slot)
-  endpoints_stored out e =
-      stored (replicate 8 0) (ids_in endpoint_width 1 (get_or slot endpoint_count_at 0) (take (length slot - endpoints_at) (drop endpoints_at slot))) out (get_or slot endpoint_count_at 0) (sym (ids_length endpoint_width 1 (get_or slot endpoint_count_at 0) _)) e
-      (rw (ids_length endpoint_width 1 (get_or slot endpoint_count_at 0) (take (length slot - endpoints_at) (drop endpoints_at slot))) h.endpoints)
-      ∙ ap (ids_in endpoint_width 1 (get_or slot endpoint_count_at 0)) (left_part slot endpoints_at)
+  pub endpoints_stored : records ≡ first_chunks endpoint_width (get_or slot endpoint_count_at 0) (take (length slot - endpoints_at) (drop endpoints_at slot)) → out ≡ sets (replicate 8 0) 0 (map (number_at 0 1) records) → take (get_or slot endpoint_count_at 0) out ≡ live_endpoints (view_session slot)
+  endpoints_stored r e =
+      stored (replicate 8 0) (ids_in endpoint_width 1 (get_or slot endpoint_count_at 0) (drop endpoints_at slot)) out (get_or slot endpoint_count_at 0) (sym (ids_length endpoint_width 1 (get_or slot endpoint_count_at 0) _))
+      (e ∙ ap (λ (rs : List (List ℕ)). sets (replicate 8 0) 0 (map (number_at 0 1) rs)) (r ∙ area_records endpoint_width _ endpoints_at slot))
+      (rw (ids_length endpoint_width 1 (get_or slot endpoint_count_at 0) (drop endpoints_at slot)) h.endpoints)
       ∙ sym (live_endpoints_lem slot)

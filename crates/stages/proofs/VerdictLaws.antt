@@ -62,40 +62,6 @@ unfolding judge reasons already_live chain
 judge_is kind s who m x r seid h =
     ap (λ (k : ℕ). chain (eqb kind establishment && is_live (key_for who k) m) (invalid_allocation r) r.unsupported (breaks_rule s m x r) (room_lacks kind s who m x r) (address_lacks s m r)) h
 
-module _ (a b c d e f : Bool) where
-  pub is_64 : a ≡ true → chain a b c d e f ≡ 64
-  unfolding chain
-  is_64 h = rw h
-
-  module _ (p : a ≡ false) where
-    pub is_71 : b ≡ true → chain a b c d e f ≡ 71
-    unfolding chain
-    is_71 h = rw (p, h)
-
-    module _ (q : b ≡ false) where
-      pub is_76 : c ≡ true → chain a b c d e f ≡ 76
-      unfolding chain
-      is_76 h = rw (p, q, h)
-
-      module _ (r : c ≡ false) where
-        pub is_73 : d ≡ true → chain a b c d e f ≡ 73
-        unfolding chain
-        is_73 h = rw (p, q, r, h)
-
-        module _ (s : d ≡ false) where
-          pub is_75 : e ≡ true → chain a b c d e f ≡ 75
-          unfolding chain
-          is_75 h = rw (p, q, r, s, h)
-
-          module _ (t : e ≡ false) where
-            pub is_79 : f ≡ true → chain a b c d e f ≡ 79
-            unfolding chain
-            is_79 h = rw (p, q, r, s, t, h)
-
-            pub is_1 : f ≡ false → chain a b c d e f ≡ 1
-            unfolding chain
-            is_1 h = rw (p, q, r, s, t, h)
-
 module _ {k : Known} {q : Told} {t taken addresses slot gone plan : List ℕ} (known : AtEntry k q t taken addresses slot gone plan) where
   abbrev s : Settings
   s = settings_of k.u

@@ -7,7 +7,7 @@ ghost use Rattle.rules.specs.Message.{establishment};
 ghost use Rattle.rules.specs.Model.{free_address_count, of_peer};
 ghost use Rattle.rules.specs.Layout.{view_session, view_sessions};
 ghost use Rattle.rules.specs.Stages.{too_many_sessions, room_lacks, address_lacks, judge};
-ghost use Rattle.plan.specs.Rows.{row_width, rows_of, tagged, request_in};
+ghost use Rattle.plan.specs.Rows.{rows_of, tagged, request_in};
 ghost use Rattle.plan.specs.RowRules.{request_of, held_in, marked_address};
 ghost use Rattle.unit.specs.Meaning.{settings_of};
 ghost use Rattle.stages.specs.RowRules.{breaks_row, some_row};
@@ -16,7 +16,7 @@ ghost use Rattle.stages.specs.Rules.{Slot, Gone, ShareOf, AtEntry, breaks_rule_b
 pub mod row;
 pub mod session;
 
-use format::{causes, kinds, types};
+use format::{Row, causes, kinds, types};
 use unit::Settings;
 
 // What the peer of a request has at entry: how many TEIDs it may still take, and how many sessions it has.
@@ -50,10 +50,10 @@ pub struct Told {
     pub noted: bool,
 }
 
-// Cause 73: does one of the n rows break a rule?
+// Cause 73: does one of the rows break a rule?
+#[tactic(auto, unfolding(crate::specs::RowRules::breaks_row, crate::specs::RowRules::some_row))]
 fn breaks_rows(
-    plan: &[u64],
-    n: usize,
+    rows: &[Row],
     pdrs: &[u64],
     endpoints: &[u64],
     gone: &[u64],
@@ -62,27 +62,19 @@ fn breaks_rows(
     addresses: &[u64],
     restoring: bool,
 ) -> bool
-    requires { (n * row_width ≤ length plan.now) × (u.size ≤ 64 * length taken.now) × (u.addresses ≤ 64 * length addresses.now) }
-    ensures { result ≡ some_row (breaks_row (held_in (settings_of u) taken.now) (marked_address (settings_of u) addresses.now) (settings_of u) restoring pdrs.now endpoints.now gone.now (rows_of n plan.now)) (rows_of n plan.now) }
+    requires { (u.size ≤ 64 * length taken.now) × (u.addresses ≤ 64 * length addresses.now) }
+    ensures { result ≡ some_row (breaks_row (held_in (settings_of u) taken.now) (marked_address (settings_of u) addresses.now) (settings_of u) restoring pdrs.now endpoints.now gone.now rows.now) rows.now }
 {
-    let mut rest = plan;
-    let mut left = n;
-    while 0 < left {
-        let row = &rest[..format::ROW];
-        rest = &rest[format::ROW..];
-        left -= 1;
-        if row::breaks_id(row, plan, n, pdrs, endpoints, gone) {
+    let mut rest = rows;
+    while let Some((row, later)) = rest.split_first() {
+        if row::breaks_id(row, rows, pdrs, endpoints, gone)
+            || row::breaks_fteid(row, u, taken)
+            || row::breaks_address(row, u, restoring, addresses)
+            || plan::disagrees(row, later)
+        {
             return true;
         }
-        if row::breaks_fteid(row, u, taken) {
-            return true;
-        }
-        if row::breaks_address(row, u, restoring, addresses) {
-            return true;
-        }
-        if plan::disagrees(row, rest, left) {
-            return true;
-        }
+        rest = later;
     }
     false
 }
@@ -94,28 +86,24 @@ pub fn breaks_rule(
     addresses: &[u64],
     slot: &[u8],
     gone: &[u64],
-    plan: &[u64],
-    n: usize,
+    rows: &[Row],
     restoring: bool,
 ) -> bool
-    requires { (u.size ≤ 64 * length taken.now) × Slot slot.now × (n * row_width ≤ length plan.now) × Gone slot.now (rows_of n plan.now) gone.now × (u.addresses ≤ 64 * length addresses.now) }
-    ensures { result ≡ breaks_rule_by (held_in (settings_of u) taken.now) (marked_address (settings_of u) addresses.now) (settings_of u) (view_session slot.now) (request_of restoring (rows_of n plan.now)) }
+    requires { (u.size ≤ 64 * length taken.now) × Slot slot.now × Gone slot.now rows.now gone.now × (u.addresses ≤ 64 * length addresses.now) }
+    ensures { result ≡ breaks_rule_by (held_in (settings_of u) taken.now) (marked_address (settings_of u) addresses.now) (settings_of u) (view_session slot.now) (request_of restoring rows.now) }
 {
     let k = slot[format::PDR_COUNT] as usize;
     let j = slot[format::ENDPOINT_COUNT] as usize;
     let mut pdrs = [0u64; format::MAX_PDRS];
     let mut endpoints = [0u64; format::MAX_ENDPOINTS];
-    session::ids(&slot[format::PDRS..], k, format::PDR, 2, &mut pdrs);
-    session::ids(
-        &slot[format::ENDPOINTS..],
-        j,
-        format::ENDPOINT,
+    session::ids::<{ format::PDR }>(plan::arrays(&slot[format::PDRS..], k), 2, &mut pdrs);
+    session::ids::<{ format::ENDPOINT }>(
+        plan::arrays(&slot[format::ENDPOINTS..], j),
         1,
         &mut endpoints,
     );
     breaks_rows(
-        plan,
-        n,
+        rows,
         &pdrs[..k],
         &endpoints[..j],
         gone,
@@ -127,78 +115,56 @@ pub fn breaks_rule(
 }
 
 // Would more records result than there is room for? Live ones less those removed, plus those created.
-fn too_many(live: usize, limit: usize, removed: usize, plan: &[u64], n: usize, new: u64) -> bool
-    requires { (live ≤ 255) × (n * row_width ≤ length plan.now) }
-    ensures { result ≡ ltb limit (live - removed + length (tagged new (rows_of n plan.now))) }
+fn too_many(live: usize, limit: usize, removed: usize, rows: &[Row], new: u64) -> bool
+    ensures { result ≡ ltb limit (live - removed + length (tagged new rows.now)) }
 {
-    let created = plan::count(plan, n, new);
-    if live < removed {
-        return limit < created;
-    }
-    limit < live - removed + created
+    let kept = live.saturating_sub(removed);
+    limit < kept || limit - kept < plan::count(rows, new)
 }
 
 // Would an establishment be one session too many for its peer?
+#[tactic(auto, using(crate::proofs::CountLaws::full_row))]
 fn full(t: &[u8], k: Known) -> bool
     requires { k.share.sessions ≡ length (of_peer k.share.peer (view_sessions t.now)) }
     ensures { result ≡ too_many_sessions (settings_of k.u) k.share.peer k.kind (view_sessions t.now) }
 {
-    if k.kind != kinds::ESTABLISHMENT {
-        return false;
-    }
-    k.u.limit / 2 <= k.share.sessions as u64
+    k.kind == kinds::ESTABLISHMENT && k.u.limit / 2 <= k.share.sessions as u64
 }
 
 // Cause 75: more sessions of the peer than half the settings' limit, 16 PDRs or 8 endpoints would result, or more TEIDs are needed than the peer may take.
-pub fn no_room(t: &[u8], k: Known, slot: &[u8], gone: &[u64], plan: &[u64], n: usize) -> bool
-    requires { ShareOf (settings_of k.u) (view_sessions t.now) k.share.peer k.share.teids k.share.sessions × Slot slot.now × (n * row_width ≤ length plan.now) × Gone slot.now (rows_of n plan.now) gone.now }
-    ensures { result ≡ room_lacks k.kind (settings_of k.u) k.share.peer (view_sessions t.now) (view_session slot.now) (request_of false (rows_of n plan.now)) }
+pub fn no_room(t: &[u8], k: Known, slot: &[u8], gone: &[u64], rows: &[Row]) -> bool
+    requires { ShareOf (settings_of k.u) (view_sessions t.now) k.share.peer k.share.teids k.share.sessions × Slot slot.now × Gone slot.now rows.now gone.now }
+    ensures { result ≡ room_lacks k.kind (settings_of k.u) k.share.peer (view_sessions t.now) (view_session slot.now) (request_of false rows.now) }
 {
-    if full(t, k) {
-        return true;
-    }
-    if too_many(
-        slot[format::PDR_COUNT] as usize,
-        format::MAX_PDRS,
-        gone.len(),
-        plan,
-        n,
-        1,
-    ) {
-        return true;
-    }
-    if too_many(
-        slot[format::ENDPOINT_COUNT] as usize,
-        format::MAX_ENDPOINTS,
-        plan::count(plan, n, types::REMOVE_ENDPOINT),
-        plan,
-        n,
-        127,
-    ) {
-        return true;
-    }
-    k.share.teids < plan::needed(plan, n)
+    let pdrs = slot[format::PDR_COUNT] as usize;
+    let endpoints = slot[format::ENDPOINT_COUNT] as usize;
+    let gone_endpoints = plan::count(rows, types::REMOVE_ENDPOINT);
+    full(t, k)
+        || too_many(pdrs, format::MAX_PDRS, gone.len(), rows, types::CREATE_PDR)
+        || too_many(
+            endpoints,
+            format::MAX_ENDPOINTS,
+            gone_endpoints,
+            rows,
+            types::CREATE_ENDPOINT,
+        )
+        || k.share.teids < plan::needed(rows)
 }
 
 // Cause 79: a record chooses an address, and none is free at entry.
-fn no_address(t: &[u8], u: Settings, free: usize, plan: &[u64], n: usize) -> bool
-    requires { (free ≡ free_address_count (settings_of u) (view_sessions t.now)) × (n * row_width ≤ length plan.now) }
-    ensures { result ≡ address_lacks (settings_of u) (view_sessions t.now) (request_of false (rows_of n plan.now)) }
+#[tactic(auto, using(crate::proofs::CountLaws::address_row))]
+fn no_address(t: &[u8], u: Settings, free: usize, rows: &[Row]) -> bool
+    requires { free ≡ free_address_count (settings_of u) (view_sessions t.now) }
+    ensures { result ≡ address_lacks (settings_of u) (view_sessions t.now) (request_of false rows.now) }
 {
-    if 0 < free {
-        return false;
-    }
-    plan::some_address(plan, n, true)
+    free == 0 && plan::some_address(rows, true)
 }
 
 // Cause 64: an establishment of a live SEID.
 fn already_live(kind: u64, live: bool) -> bool
     ensures { result ≡ (eqb kind establishment && live) }
 {
-    if kind != kinds::ESTABLISHMENT {
-        return false;
-    }
-    live
+    kind == kinds::ESTABLISHMENT && live
 }
 
 // The cause of stages 4 to 6, 1 where there is none.
@@ -215,23 +181,23 @@ pub fn judge(
     requires { AtEntry k q t.now taken.now addresses.now slot.now gone.now plan.now }
     ensures { result ≡ (judge k.kind (settings_of k.u) k.share.peer (view_sessions t.now) (view_session slot.now) (request_in q.seid q.restoring q.noted (rows_of q.rows plan.now))).cause }
 {
-    let u = k.u;
+    let rows = plan::rows(plan, q.rows);
     if already_live(k.kind, q.live) {
         return causes::REJECTED;
     }
-    if plan::invalid_allocation(plan, q.rows, q.restoring) {
+    if plan::invalid_allocation(rows, q.restoring) {
         return causes::WRONG_ALLOCATION;
     }
-    if plan::unsupported(plan, q.rows, q.noted) {
+    if plan::unsupported(rows, q.noted) {
         return causes::NOT_SUPPORTED;
     }
-    if breaks_rule(u, taken, addresses, slot, gone, plan, q.rows, q.restoring) {
+    if breaks_rule(k.u, taken, addresses, slot, gone, rows, q.restoring) {
         return causes::BROKEN_RULE;
     }
-    if no_room(t, k, slot, gone, plan, q.rows) {
+    if no_room(t, k, slot, gone, rows) {
         return causes::NO_ROOM;
     }
-    if no_address(t, u, k.addresses, plan, q.rows) {
+    if no_address(t, k.u, k.addresses, rows) {
         return causes::NO_ADDRESS;
     }
     causes::ACCEPTED

@@ -2,7 +2,7 @@
 use Rattle.std.proofs.Common.{rules, sym, ◌∙◌}
 use borrow.Author.Tests.{tests}
 use Rattle.plan.proofs.ChainLaws.{any_ran}
-use Rattle.plan.proofs.WalkLaws.{is_named, member_column}
+use Rattle.plan.proofs.RowTests.{is_named, member_column}
 use Rattle.plan.proofs.named.Goals as goal
 
 pub returns : goal.returns
