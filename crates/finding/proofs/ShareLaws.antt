@@ -1,6 +1,6 @@
 -- What a peer has, from what the check of the table counts.
 -- Assumes nothing.
-use mathlib.Core.Path.{◌≡◌, sym, ap, ◌∙◌}
+use mathlib.Core.Path.{◌≡◌, refl, sym, ap, ◌∙◌}
 use Prim.Native.Nat.{ℕ, ◌+◌, ◌-◌, ◌≤◌}
 use native.Mathlib.Omega.{arith}
 use mathlib.Core.Bool.{Bool, true, false, not}
@@ -13,9 +13,9 @@ use Rattle.octets.specs.Octets.{part, number}
 use Rattle.octets.proofs.Tests.{is_true, of_true}
 use Rattle.laws.proofs.KeptRules.{sessions_kept}
 use Rattle.laws.proofs.PeerLaws.{peer_cases, known_peers, count_peers}
-use Rattle.rules.specs.Model.{is_peer, of_peer, holdings, free_count, free_address_count}
+use Rattle.rules.specs.Model.{Sessions, is_peer, of_peer, holdings, free_count, free_address_count}
 use Rattle.rules.specs.Layout.{table_length, view_settings, view_sessions, settings_width}
-use Rattle.rules.specs.Finding.{Share, unshared, count_peer, Counts, uncounted, count_all}
+use Rattle.rules.specs.Finding.{Share, unshared, count_peer, Counts, uncounted, counts_of, count_all}
 use Rattle.rules.specs.Sound.{sound, Count, broken, free, count_free, count_addresses}
 use Rattle.std.specs.Prelude.{Result, Ok}
 use Rattle.marking.specs.declared.Broken.{Broken}
@@ -27,21 +27,9 @@ use Rattle.table.proofs.Examining.{sound_no, sound_yes, numbers, count_free_lem,
 use Rattle.unit.specs.declared.Settings.{Settings as Unit}
 use Rattle.unit.specs.Meaning.{settings_of}
 use Rattle.table.proofs.SoundSlots.{count_read, table_long_lem}
-use Rattle.finding.specs.declared.Share as code
-use Rattle.finding.specs.declared.counts.Counts as all
-use Rattle.finding.specs.Peers.{share_of, share_told}
-use Rattle.finding.specs.All.{counts_told}
-
--- ---- one peer or the other
-
-module _ (who one two first n : ℕ) where
-  pub share_first : who ≡ 1 → ◌≡◌ {A = Share} (record { outcome = 0; sessions = first; teids = one }) (share_of who one two first n)
-  unfolding share_of
-  share_first e = sym (rw (eq-eqb who 1 e))
-
-  pub share_second : (who ≡ 1 → ⊥) → ◌≡◌ {A = Share} (record { outcome = 0; sessions = n - first; teids = two }) (share_of who one two first n)
-  unfolding share_of
-  share_second e = sym (rw (ne_eqb who 1 e))
+use Rattle.finding.specs.declared.Untold.{Untold}
+use Rattle.finding.specs.declared.Untold.TheVariants as untold
+use Rattle.finding.specs.Answers.{outcome_of}
 
 -- ---- what the check says
 
@@ -51,9 +39,9 @@ number_of (free n) = n
 
 module _ (t : List ℕ) (r : Result Tally Broken) (x : r ≡ examined t) where
   -- all counts of a broken table
-  pub counts_broken : r ≡ refusal → (s : all.Counts) → counts_told s ≡ uncounted 1 → counts_told s ≡ count_all t
+  pub counts_broken : r ≡ refusal → uncounted 1 ≡ count_all t
   unfolding count_all
-  counts_broken e s f = f ∙ sym (rw (sym (sound_no t r x e)))
+  counts_broken e = sym (rw (sym (sound_no t r x e)))
 
   module _ (c : Tally) (e : r ≡ Ok c) where
     told : T (sound t)
@@ -98,27 +86,54 @@ module _ (t : List ℕ) (r : Result Tally Broken) (x : r ≡ examined t) where
           (λ i. record { outcome = 0; sessions1 = (is i).first; teids1 = (is i).one; sessions2 = rest_is i; teids2 = (is i).two; free = number_of (some i); free_addresses = number_of (more i) })
           ∙ sym (rw yes)
 
-module _ (t : List ℕ) (who : ℕ) (a : Bool) (p : a ≡ is_peer who) where
-  pub share_stranger : (s : code.Share) → not a ≡ true → share_told s ≡ unshared 7 → share_told s ≡ count_peer t who
-  unfolding count_peer
-  share_stranger s z e = e ∙ sym (rw (← p, not-true a z))
+-- ---- one peer's share of it
 
-  module _ (z : not a ≡ false) (r : Result Tally Broken) (x : r ≡ examined t) where
+module _ (t : List ℕ) (who : ℕ) (a : Bool) (p : a ≡ is_peer who) where
+  pub share_stranger : not a ≡ true → unshared 7 ≡ count_peer t who
+  unfolding count_peer
+  share_stranger z = sym (rw (← p, not-true a z))
+
+  module _ (z : not a ≡ false) where
     yes : is_peer who ≡ true
     yes = sym p ∙ not-false a z
 
-    pub share_broken : (s : code.Share) → r ≡ refusal → share_told s ≡ unshared 1 → share_told s ≡ count_peer t who
-    unfolding count_peer
-    share_broken s e f = f ∙ sym (rw (yes, sym (sound_no t r x e)))
+    -- a refusal is the same
+    pub share_none : (u : Untold) → uncounted (outcome_of u) ≡ count_all t → unshared (outcome_of u) ≡ count_peer t who
+    unfolding count_all count_peer
+    share_none u e = rw yes (go (sound t) e)
+      where
+        some_outcome : (v : Untold) → outcome_of v ≡ 0 → ⊥
+        some_outcome untold.Broken z = omega arith
+        some_outcome untold.NotFound z = omega arith
+        some_outcome untold.NoPeer z = omega arith
 
-    pub share_told_lem : (c : Tally) → (e : r ≡ Ok c) → (n : ℕ) → n ≡ number (part settings_width 2 t)
-        → (s : code.Share) → share_told s ≡ share_of who c.one c.two c.first n → share_told s ≡ count_peer t who
-    unfolding count_peer share_of
-    share_told_lem c e n k s f =
-        let m = view_sessions t in
-        let g = is t r x c e in
-        let l = rest_is t r x c e n k in
-        f
-        ∙ peer_cases (λ (i : ℕ). ◌≡◌ {A = Share} (record { outcome = 0; sessions = pick (eqb i 1) c.first (n - c.first); teids = pick (eqb i 1) c.one c.two }) (record { outcome = 0; sessions = length (of_peer i m); teids = holdings i m }))
-        (λ j. record { outcome = 0; sessions = (g j).first; teids = (g j).one }) (λ j. record { outcome = 0; sessions = l j; teids = (g j).two }) who (of_true yes)
-        ∙ sym (rw (yes, is_true (sound t) (told t r x c e)))
+        go : (b : Bool) → uncounted (outcome_of u) ≡ pick b (counts_of (view_settings t) (view_sessions t)) (uncounted 1)
+            → unshared (outcome_of u) ≡ pick b (record { outcome = 0; sessions = length (of_peer who (view_sessions t)); teids = holdings who (view_sessions t) }) (unshared 1)
+        go true f = absurd (some_outcome u (ap (λ (c : Counts). c.outcome) f))
+        go false f = ap (λ (c : Counts). unshared c.outcome) f
+
+    -- a peer's share
+    share_in : Counts → ℕ → Share
+    share_in c i = record { outcome = c.outcome; sessions = pick (eqb i 1) c.sessions1 c.sessions2; teids = pick (eqb i 1) c.teids1 c.teids2 }
+
+    counted_share : (c : Counts) → c.outcome ≡ 0 → c ≡ count_all t → share_in c who ≡ count_peer t who
+    unfolding count_all count_peer share_in
+    counted_share c n e = rw yes (go (sound t) e)
+      where
+        m : Sessions
+        m = view_sessions t
+
+        go : (b : Bool) → c ≡ pick b (counts_of (view_settings t) m) (uncounted 1) → share_in c who ≡ pick b (record { outcome = 0; sessions = length (of_peer who m); teids = holdings who m }) (unshared 1)
+        go true f =
+            ap (λ (d : Counts). share_in d who) f
+            ∙ peer_cases (λ (i : ℕ). share_in (counts_of (view_settings t) m) i ≡ record { outcome = 0; sessions = length (of_peer i m); teids = holdings i m }) refl refl who (of_true yes)
+        go false f = absurd (let o = ap (λ (d : Counts). d.outcome) f in omega arith)
+
+    module _ (c : Counts) (n : c.outcome ≡ 0) (e : c ≡ count_all t) where
+      pub share_first : who ≡ 1 → ◌≡◌ {A = Share} (record { outcome = 0; sessions = c.sessions1; teids = c.teids1 }) (count_peer t who)
+      unfolding share_in
+      share_first h = ap (λ (o : ℕ). record { outcome = o; sessions = c.sessions1; teids = c.teids1 }) (sym n) ∙ rw (eq-eqb who 1 h) at (counted_share c n e)
+
+      pub share_second : (who ≡ 1 → ⊥) → ◌≡◌ {A = Share} (record { outcome = 0; sessions = c.sessions2; teids = c.teids2 }) (count_peer t who)
+      unfolding share_in
+      share_second h = ap (λ (o : ℕ). record { outcome = o; sessions = c.sessions2; teids = c.teids2 }) (sym n) ∙ rw (ne_eqb who 1 h) at (counted_share c n e)

@@ -26,9 +26,12 @@ use Rattle.session.specs.Areas.{table_area}
 use Rattle.session.proofs.Saved.{session_place_lem, session_absent}
 use Rattle.table.proofs.Encoded.{Encoded, sound_encoded}
 use Rattle.table.proofs.SoundSlots.{slot_at, few_pdrs_lem, few_endpoints_lem, slot_long_lem, slot_session, place_allowed, count_read, table_long_lem}
-use Rattle.finding.specs.declared.Answer.{Answer}
-use Rattle.finding.specs.Holds.{SlotCounted}
+use Rattle.std.specs.Prelude as std
+use Rattle.std.specs.Option.{ok_or}
+use Rattle.finding.specs.declared.Untold.{Untold}
+use Rattle.finding.specs.declared.Untold.TheVariants.{NotFound}
 use Rattle.finding.specs.Answers.{finding_told}
+use Rattle.finding.specs.Holds.{SlotCounted}
 use Rattle.finding.proofs.PlaceLaws.{key_found, place_none, place_here, place_later, place_end}
 
 -- ---- broken or not
@@ -108,9 +111,16 @@ module _ (t : List ℕ) (b : Bool) (e : b ≡ sound t) where
     unfolding find_holder
     teid_broken z = told_broken (holder_place teid (view_sessions t)) z
 
-    pub teid_told : (r : Answer) → not b ≡ false → finding_told r ≡ finding_of (holder_place teid (view_sessions t)) → finding_told r ≡ find_holder t teid
+    pub teid_told : (o : std.Option ℕ) (r : std.Result ℕ Untold) → not b ≡ false
+        → std.MatchOption o (holder_place teid (view_sessions t) ≡ none) (λ i. holder_place teid (view_sessions t) ≡ some i)
+        → r ≡ ok_or o NotFound → finding_told r ≡ find_holder t teid
     unfolding find_holder
-    teid_told r z q = q ∙ told (holder_place teid (view_sessions t)) z
+    teid_told o r z q e = ap finding_told e ∙ is_told o q ∙ told (holder_place teid (view_sessions t)) z
+      where
+        is_told : (p : std.Option ℕ) → std.MatchOption p (holder_place teid (view_sessions t) ≡ none) (λ i. holder_place teid (view_sessions t) ≡ some i)
+            → finding_told (ok_or p NotFound) ≡ finding_of (holder_place teid (view_sessions t))
+        is_told std.None h = ap finding_of (sym h)
+        is_told (std.Some i) h = ap finding_of (sym h)
 
   pub sessions_counted_lem : (n : ℕ) → not b ≡ false → n ≡ number (part settings_width 2 t) → n ≡ length (view_sessions t)
   sessions_counted_lem n z q = q ∙ sym (count_read t (is_sound_lem z))
@@ -135,13 +145,13 @@ module _ (t : List ℕ) (h : T (sound t)) (teid i n : ℕ) (count : n ≡ length
     test = ap (is_holder teid) (sym (slot_session t h i less)) ∙ sym e
 
     pub holder_here : r ≡ true → place_from i (is_holder teid) (drop i (view_sessions t)) ≡ holder_place teid (view_sessions t)
-        → finding_of (some i) ≡ finding_of (holder_place teid (view_sessions t))
-    holder_here y k = ap finding_of (sym (place_here (is_holder teid) (view_sessions t) i less (test ∙ y)) ∙ k)
+        → holder_place teid (view_sessions t) ≡ some i
+    holder_here y k = sym k ∙ place_here (is_holder teid) (view_sessions t) i less (test ∙ y)
 
     pub holder_later : r ≡ false → place_from i (is_holder teid) (drop i (view_sessions t)) ≡ holder_place teid (view_sessions t)
         → place_from (i + 1) (is_holder teid) (drop (i + 1) (view_sessions t)) ≡ holder_place teid (view_sessions t)
     holder_later y k = sym (place_later (is_holder teid) (view_sessions t) i less (test ∙ y)) ∙ k
 
 pub holder_none : (t : List ℕ) (teid i n : ℕ) → n ≡ length (view_sessions t) → n ≤ i → place_from i (is_holder teid) (drop i (view_sessions t)) ≡ holder_place teid (view_sessions t)
-    → finding_of none ≡ finding_of (holder_place teid (view_sessions t))
-holder_none t teid i n c h k = ap finding_of (sym (place_end (is_holder teid) (view_sessions t) i (omega arith)) ∙ k)
+    → holder_place teid (view_sessions t) ≡ none
+holder_none t teid i n c h k = sym k ∙ place_end (is_holder teid) (view_sessions t) i (omega arith)

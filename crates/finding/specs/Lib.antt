@@ -1,4 +1,4 @@
--- `Holds`: who holds a TEID, by the octets of a slot; `Answers`: the code's answer as the rules have it; `Peers`: what a peer has; `All`: all counts.
+-- `Holds`: who holds a TEID, by the octets of a slot; `Answers`: the code's answers as the rules have them; `Peers`: what a peer has; `All`: all counts.
 pub mod Holds
 pub mod Answers
 pub mod Peers

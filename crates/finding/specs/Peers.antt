@@ -1,13 +1,11 @@
--- What a peer has, by what the check of a table counts.
+-- What a peer has, as the rules have it.
 -- Assumes nothing.
-use Rattle.std.specs.Prelude.{ℕ, ◌-◌, eqb}
-use Rattle.octets.specs.Choice.{pick}
-use Rattle.rules.specs.Finding.{Share}
+use Rattle.std.specs.Prelude.{Result, Ok, Err}
+use Rattle.rules.specs.Finding.{Share, unshared}
 use Rattle.finding.specs.declared.Share as code
+use Rattle.finding.specs.declared.Untold.{Untold}
+use Rattle.finding.specs.Answers.{outcome_of}
 
--- by the TEIDs of each peer, the sessions of peer 1 and all
-unfoldable pub share_of : ℕ → ℕ → ℕ → ℕ → ℕ → Share
-share_of who one two first n = record { outcome = 0; sessions = pick (eqb who 1) first (n - first); teids = pick (eqb who 1) one two }
-
-abbrev pub share_told : code.Share → Share
-share_told r = record { outcome = r.outcome; sessions = r.sessions; teids = r.teids }
+abbrev pub share_told : Result code.Share Untold → Share
+share_told (Ok r) = record { outcome = 0; sessions = r.sessions; teids = r.teids }
+share_told (Err e) = unshared (outcome_of e)

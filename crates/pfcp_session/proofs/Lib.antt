@@ -1,2 +1,3 @@
--- `CallLaws`: the calls' answers as numbers.
+-- `CallLaws`: the calls' answers as numbers; `ToldLaws`: what a table told, or zeros beside an outcome.
 pub mod CallLaws
+pub mod ToldLaws

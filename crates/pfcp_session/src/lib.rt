@@ -3,13 +3,15 @@
 // A slice is passed as a pointer and then its length. Every call may be given any octets and any numbers.
 #![tactic(auto)]
 
-ghost use Rattle.std.specs.Prelude.{◌≡◌};
+ghost use Rattle.std.specs.Prelude.{◌≡◌, MatchResult};
 ghost use Rattle.rules.specs.Sound.{length_for};
 ghost use Rattle.unit.specs.Meaning.{settings_given};
 ghost use Rattle.table.specs.Answers.{count_told};
 ghost use Rattle.rules.specs.Store.{store_length};
+ghost use Rattle.finding.specs.Answers.{outcome_of};
 ghost use Rattle.pfcp_session.specs.Calls.{store_call, once_call, CountFits, count_answer, make_call, count_call, address_count_call, request_call, restoration_call, session_count_call, find_session_call, find_teid_call, peer_count_call, counts_call};
 
+use finding::Untold;
 use table::Broken;
 use unit::Peer;
 
@@ -22,6 +24,16 @@ const REFUSED: u32 = 1;
 const COUNTED: u32 = 0;
 
 const BROKEN: u32 = 1;
+
+// The outcome of what a table told: 0, or why it told nothing.
+fn outcome<T>(told: &Result<T, Untold>) -> u32
+    ensures { MatchResult told.now (λ x. result ≡ 0) (λ untold. result ≡ outcome_of untold) }
+{
+    match told {
+        Ok(_) => COUNTED,
+        Err(untold) => untold.outcome(),
+    }
+}
 
 // How many octets a table with room for so many sessions has; 0 for a limit that is not allowed: 2 to 256 are.
 #[unsafe(no_mangle)]
@@ -212,8 +224,8 @@ pub extern "C" fn pfcp_session_count(table: &[u8], count: &mut u32) -> u32
     ensures { record { outcome = result; number = count.new } ≡ session_count_call table.now }
 {
     let counted = finding::session_count(table);
-    *count = counted.number as u32;
-    counted.outcome
+    *count = counted.unwrap_or(0) as u32;
+    outcome(&counted)
 }
 
 // Writes the place, from 0, of the session of a peer's SEID: outcome 0, or 1 where the table is broken or of wrong length, 2 where no session
@@ -223,8 +235,8 @@ pub extern "C" fn pfcp_find_session(table: &[u8], peer: u32, seid: u64, place: &
     ensures { record { outcome = result; number = place.new } ≡ find_session_call table.now peer seid }
 {
     let found = finding::find_session(table, peer, seid);
-    *place = found.number;
-    found.outcome
+    *place = found.unwrap_or(0);
+    outcome(&found)
 }
 
 // Writes the place, from 0, of the session that holds a TEID: outcome 0, or 1 where the table is broken or of wrong length, 2 where no
@@ -234,8 +246,8 @@ pub extern "C" fn pfcp_find_teid(table: &[u8], teid: u32, place: &mut usize) -> 
     ensures { record { outcome = result; number = place.new } ≡ find_teid_call table.now teid }
 {
     let holder = finding::find_holder(table, teid as u64);
-    *place = holder.number;
-    holder.outcome
+    *place = holder.unwrap_or(0);
+    outcome(&holder)
 }
 
 // Writes how many sessions a peer has, and how many different TEIDs their records hold: outcome 0, or 7 for a number that is no peer's, 1 where
@@ -249,10 +261,11 @@ pub extern "C" fn pfcp_peer_count(
 ) -> u32
     ensures { record { outcome = result; sessions = sessions.new; teids = teids.new } ≡ peer_count_call table.now peer }
 {
-    let share = finding::peer_count(table, peer);
+    let told = finding::peer_count(table, peer);
+    let share = told.unwrap_or_default();
     *sessions = share.sessions as u32;
     *teids = share.teids as u32;
-    share.outcome
+    outcome(&told)
 }
 
 // Writes all counts of a table at once, by one check of it: of each peer its sessions and the different TEIDs that their records hold, and how many TEIDs
@@ -269,12 +282,13 @@ pub extern "C" fn pfcp_counts(
 ) -> u32
     ensures { record { outcome = result; sessions1 = sessions1.new; teids1 = teids1.new; sessions2 = sessions2.new; teids2 = teids2.new; free = free.new; free_addresses = addresses.new } ≡ counts_call table.now }
 {
-    let all = finding::counts::all(table);
-    *sessions1 = all.sessions1 as u32;
-    *teids1 = all.teids1 as u32;
-    *sessions2 = all.sessions2 as u32;
-    *teids2 = all.teids2 as u32;
+    let counts = finding::counts::all(table);
+    let all = counts.unwrap_or_default();
+    *sessions1 = all.peer1.sessions as u32;
+    *teids1 = all.peer1.teids as u32;
+    *sessions2 = all.peer2.sessions as u32;
+    *teids2 = all.peer2.teids as u32;
     *free = all.free as u32;
     *addresses = all.addresses as u32;
-    all.outcome
+    outcome(&counts)
 }

@@ -17,4 +17,4 @@ pub holder-requires : goal.holder-requires
 holder-requires c = (search is_sound_lem, search sessions_counted_lem)
 
 pub returns : goal.returns
-returns c = search teid_told
+returns c = teid_told _ _ c.is_sound.ensures _ _ _ c.if-not-is_sound.false-raw c.holder.ensures c.ok_or.ensures.value

@@ -14,8 +14,8 @@ read-room-requires c =
     let l = table_long_lem t (is_sound_lem t _ c.is_sound.ensures c.if-not-is_sound.false-raw) in
     omega arith
 
-pub find-place-requires : goal.find-place-requires
-find-place-requires c = search room_there
+pub find-requires : goal.find-requires
+find-requires c = search room_there
 
 pub returns-in-Found : goal.returns-in-Found
 returns-in-Found c = search seid_told
