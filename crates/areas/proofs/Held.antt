@@ -1,6 +1,7 @@
 -- Octets that hold records of any type in an area: what is counted and found there, and that putting a record in, taking one out, changing one
 -- and taking all out leave octets that hold the changed list, in ascending order of the key.
 -- Assumes nothing.
+use Rattle.std.specs.Prelude.{Result, Ok, Err}
 use mathlib.Core.Path.{◌≡◌, refl, sym, ap, ap₂, subst, ◌∙◌}
 use mathlib.Core.Bool.{Bool, true, false, not}
 use mathlib.Core.Option.{none, some}
@@ -20,8 +21,6 @@ use Rattle.octets.proofs.Numbers.{length_be, number_be}
 use Rattle.octets.proofs.Tests.{all_head, all_tail, all_at, all_cons, no_eqb}
 use Rattle.octets.proofs.Ordered.{ne_of, keep_all, keep_passes, keep_ascending, other_key, insert_all_lem, insert_length, insert_ascending}
 use Rattle.areas.specs.Records.{key_of, lookup, inserted, removed, replaced}
-use Rattle.areas.specs.declared.Lookup.{Lookup}
-use Rattle.areas.specs.declared.Lookup.TheVariants.{Found, Absent}
 use Rattle.areas.proofs.LookupLaws.{get_d_slices}
 use Rattle.areas.proofs.AreaLaws as slot
 use Rattle.areas.proofs.AreaLaws.{Wide, insert_held, remove_held, replace_held, held_slices, held_length}
@@ -183,7 +182,7 @@ module _ {A : Type 0} (f : A → List ℕ) (key : A → ℕ) (a : Area) (p : A �
       place_key : place_in a (key_of a.key (f r)) s ≡ lookup (key r) (map key rs)
       place_key = ap (λ (x : ℕ). place_in a x s) (good r ok).1 ∙ place_held (key r)
 
-      over_found : (n : ℕ) → lookup (key r) (map key rs) ≡ Found n → Held pre mid post with (replaced_in a n (f r) s)
+      over_found : (n : ℕ) → lookup (key r) (map key rs) ≡ Ok n → Held pre mid post with (replaced_in a n (f r) s)
       unfolding replaced_in
       over_found n e =
           let ar : List ℕ = replaced n (f r) (area_in a s) in
@@ -194,7 +193,7 @@ module _ {A : Type 0} (f : A → List ℕ) (key : A → ℕ) (a : Area) (p : A �
           (area_put ar (held_length f k) ∙ sym (both_put (length rs) ar (held_length f k)) ∙ ap (λ (n : ℕ). put a.count_at (be a.count_width n) (put a.at ar s)) (sym long))
           with_passes with_up
 
-      put_absent : (n : ℕ) → lookup (key r) (map key rs) ≡ Absent n → length rs < a.room → Held pre mid post with (inserted_in a n (f r) s)
+      put_absent : (n : ℕ) → lookup (key r) (map key rs) ≡ Err n → length rs < a.room → Held pre mid post with (inserted_in a n (f r) s)
       unfolding inserted_in
       put_absent n e less =
           let ar : List ℕ = inserted (count_in a s) n (f r) (area_in a s) in
@@ -208,7 +207,7 @@ module _ {A : Type 0} (f : A → List ℕ) (key : A → ℕ) (a : Area) (p : A �
           (ap (λ (n : ℕ). put a.count_at (be a.count_width n) (put a.at ar s)) long)
           with_passes with_up
 
-      absent_long : (n : ℕ) → lookup (key r) (map key rs) ≡ Absent n → length with ≤ a.room → length rs < a.room
+      absent_long : (n : ℕ) → lookup (key r) (map key rs) ≡ Err n → length with ≤ a.room → length rs < a.room
       absent_long n e l =
           let stay : keep (other_than key (key r)) rs ≡ rs = keep_none (λ y. eqb (key y) (key r)) rs (absent_record key (key r) n rs h.up e) in
           let g = insert_length key r (keep (other_than key (key r)) rs) ∙ ap (λ (l : List A). suc (length l)) stay in
@@ -217,13 +216,13 @@ module _ {A : Type 0} (f : A → List ℕ) (key : A → ℕ) (a : Area) (p : A �
       pub with_held : length with ≤ a.room → Held pre mid post with (with_record a (f r) s)
       unfolding with_record
       with_held l =
-          subst (λ (q : Lookup). Held pre mid post with (at_place q (λ n. replaced_in a n (f r) s) (λ n. pick (ltb (count_in a s) a.room) (inserted_in a n (f r) s) s)))
+          subst (λ (q : Result ℕ ℕ). Held pre mid post with (at_place q (λ n. replaced_in a n (f r) s) (λ n. pick (ltb (count_in a s) a.room) (inserted_in a n (f r) s) s)))
           (sym place_key) (go (lookup (key r) (map key rs)) refl)
         where
-          go : (q : Lookup) → lookup (key r) (map key rs) ≡ q
+          go : (q : Result ℕ ℕ) → lookup (key r) (map key rs) ≡ q
               → Held pre mid post with (at_place q (λ n. replaced_in a n (f r) s) (λ n. pick (ltb (count_in a s) a.room) (inserted_in a n (f r) s) s))
-          go (Found n) e = over_found n e
-          go (Absent n) e =
+          go (Ok n) e = over_found n e
+          go (Err n) e =
               let less = absent_long n e l in
               rw (count_held, lt-ltb (length rs) a.room less) (put_absent n e less)
 
@@ -232,7 +231,7 @@ module _ {A : Type 0} (f : A → List ℕ) (key : A → ℕ) (a : Area) (p : A �
       abbrev left : List A
       left = keep (other_than key x) rs
 
-      out_found : (n : ℕ) → lookup x (map key rs) ≡ Found n → Held pre mid post left (removed_in a n s)
+      out_found : (n : ℕ) → lookup x (map key rs) ≡ Ok n → Held pre mid post left (removed_in a n s)
       unfolding removed_in
       out_found n e =
           let ar : List ℕ = removed a.width (count_in a s) n (area_in a s) in
@@ -250,15 +249,15 @@ module _ {A : Type 0} (f : A → List ℕ) (key : A → ℕ) (a : Area) (p : A �
       pub without_held : Held pre mid post left (without_record a x s)
       unfolding without_record
       without_held =
-          subst (λ (q : Lookup). Held pre mid post left (at_place q (λ n. removed_in a n s) (λ n. s))) (sym (place_held x)) (go (lookup x (map key rs)) refl)
+          subst (λ (q : Result ℕ ℕ). Held pre mid post left (at_place q (λ n. removed_in a n s) (λ n. s))) (sym (place_held x)) (go (lookup x (map key rs)) refl)
         where
-          go : (q : Lookup) → lookup x (map key rs) ≡ q → Held pre mid post left (at_place q (λ n. removed_in a n s) (λ n. s))
-          go (Found n) e = out_found n e
-          go (Absent n) e = subst (λ (l : List A). Held pre mid post l s) (sym (keep_none (λ y. eqb (key y) x) rs (absent_record key x n rs h.up e))) h
+          go : (q : Result ℕ ℕ) → lookup x (map key rs) ≡ q → Held pre mid post left (at_place q (λ n. removed_in a n s) (λ n. s))
+          go (Ok n) e = out_found n e
+          go (Err n) e = subst (λ (l : List A). Held pre mid post l s) (sym (keep_none (λ y. eqb (key y) x) rs (absent_record key x n rs h.up e))) h
 
     -- one record changed, its key kept
     pub changed_held : (d : A) (x n : ℕ) (g : A → A) → ((r : A) → T (other_than key x r) → g r ≡ r) → ((r : A) → T (p r) → T (p (g r))) → ((r : A) → key (g r) ≡ key r)
-        → lookup x (map key rs) ≡ Found n → Held pre mid post (map g rs) (replaced_in a n (f (g (get_or rs n d))) s)
+        → lookup x (map key rs) ≡ Ok n → Held pre mid post (map g rs) (replaced_in a n (f (g (get_or rs n d))) s)
     unfolding replaced_in
     changed_held d x n g other keeps same e =
         let r : A = g (get_or rs n d) in

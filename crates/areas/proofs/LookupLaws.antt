@@ -1,5 +1,6 @@
 -- Records read from octets, and the loop that looks for a key.
 -- Assumes nothing.
+use Rattle.std.specs.Prelude.{Ok, Err}
 use mathlib.Core.Path.{◌≡◌, refl, sym, ap, ◌∙◌}
 use mathlib.Core.List.{List, [], ◌∷◌, map}
 use Prim.Native.Nat.{ℕ, zero, suc, ◌+◌, ◌*◌, ◌≤◌, ◌<◌}
@@ -11,7 +12,6 @@ use lib.ListN.{length, take, drop, get_or, length-map, drop_of_length-le, get_or
 use lib.Seq.{drop-cons, drop-drop, take-nil, take-take}
 use Rattle.octets.specs.Octets.{part, number, slices}
 use Rattle.octets.proofs.Numbers.{length_slices}
-use Rattle.areas.specs.declared.Lookup.TheVariants.{Found, Absent}
 use Rattle.areas.specs.Records.{key_of, lookup, lookup_from}
 
 -- the ith record starts at i * w
@@ -58,16 +58,16 @@ module _ {x : ℕ} {ks : List ℕ} {n : ℕ} where
     unfolding lookup_from
     looking_more l = record { size = a.size; within = omega arith; rest = rw (add-one) (here ∙ simp (lt-leb x y l)) }
 
-    pub looking_found : x ≤ y → y ≡ x → Found i ≡ lookup x ks
+    pub looking_found : x ≤ y → y ≡ x → Ok i ≡ lookup x ks
     unfolding lookup_from
     looking_found l q = sym (here ∙ simp (le-leb x y l, eq-eqb y x q))
 
-    pub looking_absent : x ≤ y → (y ≡ x → ⊥) → Absent i ≡ lookup x ks
+    pub looking_absent : x ≤ y → (y ≡ x → ⊥) → Err i ≡ lookup x ks
     unfolding lookup_from
     looking_absent l q = sym (here ∙ simp (le-leb x y l, ne_eqb y x q))
 
-  pub looking_end : {i : ℕ} → Looking x ks n i → n ≤ i → Absent n ≡ lookup x ks
+  pub looking_end : {i : ℕ} → Looking x ks n i → n ≤ i → Err n ≡ lookup x ks
   unfolding lookup_from
   looking_end {i} a h =
       let e : i ≡ n = omega arith in
-      sym (a.rest ∙ ap (lookup_from i x) (drop_of_length-le ks {i = i} (omega arith)) ∙ ap Absent e)
+      sym (a.rest ∙ ap (lookup_from i x) (drop_of_length-le ks {i = i} (omega arith)) ∙ ap Err e)

@@ -1,4 +1,5 @@
 -- Keys of nine octets in two numbers: compared part by part, and looked for. Assumes nothing.
+use Rattle.std.specs.Prelude.{Ok, Err}
 use mathlib.Core.Path.{◌≡◌, sym, ap, ◌∙◌}
 use mathlib.Core.Bool.{Bool, true, false}
 use mathlib.Core.List.{List}
@@ -13,7 +14,6 @@ use Rattle.octets.proofs.Parts.{part_first}
 use Rattle.octets.proofs.Put.{length_part}
 use Rattle.octets.proofs.FieldLaws.{octet_read}
 use Rattle.octets.proofs.Ordered.{orders}
-use Rattle.areas.specs.declared.Lookup.TheVariants.{Found, Absent}
 use Rattle.areas.specs.Records.{pair_key, lookup}
 use Rattle.areas.proofs.LookupLaws.{keys, key_at, Looking, looking_more, looking_found, looking_absent}
 
@@ -70,10 +70,10 @@ module _ {x : ℕ} {ks : List ℕ} {n i y : ℕ} (a : Looking x ks n i) (h : i <
   pub pair_next : (b : Bool) → b ≡ leb x y → b ≡ false → Looking x ks n (i + 1)
   pair_next b q f = looking_more a h e (leb-false x y (sym q ∙ f))
 
-  pub pair_found : (b c : Bool) → b ≡ leb x y → b ≡ true → c ≡ eqb y x → c ≡ true → Found i ≡ lookup x ks
+  pub pair_found : (b c : Bool) → b ≡ leb x y → b ≡ true → c ≡ eqb y x → c ≡ true → Ok i ≡ lookup x ks
   pair_found b c q f p g = looking_found a h e (leb-true x y (sym q ∙ f)) (eqb-true y x (sym p ∙ g))
 
-  pub pair_absent : (b c : Bool) → b ≡ leb x y → b ≡ true → c ≡ eqb y x → c ≡ false → Absent i ≡ lookup x ks
+  pub pair_absent : (b c : Bool) → b ≡ leb x y → b ≡ true → c ≡ eqb y x → c ≡ false → Err i ≡ lookup x ks
   pair_absent b c q f p g = looking_absent a h e (leb-true x y (sym q ∙ f)) (eqb-false y x (sym p ∙ g))
 
 -- ---- a turn of the loop: what was read at i, and how it compares
@@ -86,8 +86,8 @@ module _ (w n i : ℕ) (s : List ℕ) (y z hi lo : ℕ) (wide : 9 ≤ w) (long :
   pub turn_next : b ≡ false → Looking (pair_key hi lo) (keys w 9 n s) n (i + 1)
   turn_next g = pair_next a h key b q g
 
-  pub turn_found : (c : Bool) → b ≡ true → c ≡ eqb (pair_key y z) (pair_key hi lo) → c ≡ true → Found i ≡ lookup (pair_key hi lo) (keys w 9 n s)
+  pub turn_found : (c : Bool) → b ≡ true → c ≡ eqb (pair_key y z) (pair_key hi lo) → c ≡ true → Ok i ≡ lookup (pair_key hi lo) (keys w 9 n s)
   turn_found c g p k = pair_found a h key b c q g p k
 
-  pub turn_absent : (c : Bool) → b ≡ true → c ≡ eqb (pair_key y z) (pair_key hi lo) → c ≡ false → Absent i ≡ lookup (pair_key hi lo) (keys w 9 n s)
+  pub turn_absent : (c : Bool) → b ≡ true → c ≡ eqb (pair_key y z) (pair_key hi lo) → c ≡ false → Err i ≡ lookup (pair_key hi lo) (keys w 9 n s)
   turn_absent c g p k = pair_absent a h key b c q g p k

@@ -1,6 +1,7 @@
 -- A key's place among records of any type: what `lookup` answers, and that to insert, remove or replace at that place is to do
 -- so by the key, as the rules do it.
 -- Assumes nothing.
+use Rattle.std.specs.Prelude.{Ok, Err}
 use mathlib.Core.Path.{◌≡◌, refl, sym, ap, subst, ◌∙◌}
 use mathlib.Core.Bool.{Bool, true, false, not}
 use mathlib.Core.List.{List, [], ◌∷◌, ◌++◌, map}
@@ -15,7 +16,6 @@ use Rattle.octets.specs.Choice.{pick}
 use Rattle.octets.specs.Lists.{keep, find_by, insert_by, ascending, all}
 use Rattle.octets.proofs.Tests.{all_head, all_tail, all_cons, no_eqb, ascending_tail}
 use Rattle.octets.proofs.Ordered.{orders, up_pairs, pairs_head, below_key}
-use Rattle.areas.specs.declared.Lookup.TheVariants.{Found, Absent}
 use Rattle.areas.specs.Records.{lookup, lookup_from}
 
 -- by place
@@ -40,7 +40,7 @@ module _ {A : Type 0} (key : A → ℕ) where
   abbrev pub other_than : ℕ → A → Bool
   other_than x r = not (eqb (key r) x)
 
-  lookup_split : (i x : ℕ) (rs : List A) → lookup_from i x (map key rs) ≡ pick (holds x rs) (Found (i + place x rs)) (Absent (i + place x rs))
+  lookup_split : (i x : ℕ) (rs : List A) → lookup_from i x (map key rs) ≡ pick (holds x rs) (Ok (i + place x rs)) (Err (i + place x rs))
   unfolding lookup_from place holds
   lookup_split i x [] = rw add-zero
   lookup_split i x (r ∷ rs) =
@@ -49,17 +49,17 @@ module _ {A : Type 0} (key : A → ℕ) where
       (λ l. simp (lt-leb x (key r) l, add-suc) (lookup_split (suc i) x rs ∙ rw suc-add))
 
   -- what the two answers say
-  found_is : (x p : ℕ) (rs : List A) → lookup x (map key rs) ≡ Found p → (holds x rs ≡ true) × (p ≡ place x rs)
+  found_is : (x p : ℕ) (rs : List A) → lookup x (map key rs) ≡ Ok p → (holds x rs ≡ true) × (p ≡ place x rs)
   found_is x p rs e = go (holds x rs) (sym (lookup_split 0 x rs) ∙ e)
     where
-      go : (b : Bool) → pick b (Found (0 + place x rs)) (Absent (0 + place x rs)) ≡ Found p → (b ≡ true) × (p ≡ place x rs)
+      go : (b : Bool) → pick b (Ok (0 + place x rs)) (Err (0 + place x rs)) ≡ Ok p → (b ≡ true) × (p ≡ place x rs)
       go true e = (refl, (let q : 0 + place x rs ≡ p = cc in omega arith))
       go false e = absurd (let z : ◌≡◌ {A = ℕ} 0 1 = cc in omega arith)
 
-  absent_is : (x p : ℕ) (rs : List A) → lookup x (map key rs) ≡ Absent p → (holds x rs ≡ false) × (p ≡ place x rs)
+  absent_is : (x p : ℕ) (rs : List A) → lookup x (map key rs) ≡ Err p → (holds x rs ≡ false) × (p ≡ place x rs)
   absent_is x p rs e = go (holds x rs) (sym (lookup_split 0 x rs) ∙ e)
     where
-      go : (b : Bool) → pick b (Found (0 + place x rs)) (Absent (0 + place x rs)) ≡ Absent p → (b ≡ false) × (p ≡ place x rs)
+      go : (b : Bool) → pick b (Ok (0 + place x rs)) (Err (0 + place x rs)) ≡ Err p → (b ≡ false) × (p ≡ place x rs)
       go false e = (refl, (let q : 0 + place x rs ≡ p = cc in omega arith))
       go true e = absurd (let z : ◌≡◌ {A = ℕ} 0 1 = cc in omega arith)
 
@@ -198,28 +198,28 @@ module _ {A : Type 0} (key : A → ℕ) where
 
   -- What an answer of `lookup` is good for.
   module _ (x p : ℕ) (rs : List A) where
-    pub found_within : lookup x (map key rs) ≡ Found p → p < length rs
+    pub found_within : lookup x (map key rs) ≡ Ok p → p < length rs
     found_within e = let i = found_is x p rs e in rw i.1 (held_within x rs i.0)
 
-    pub absent_within : lookup x (map key rs) ≡ Absent p → p ≤ length rs
+    pub absent_within : lookup x (map key rs) ≡ Err p → p ≤ length rs
     absent_within e = rw (absent_is x p rs e).1 (place_within x rs)
 
-    pub found_record : (d : A) → lookup x (map key rs) ≡ Found p → find_by (λ y. eqb (key y) x) rs ≡ some (get_or rs p d)
+    pub found_record : (d : A) → lookup x (map key rs) ≡ Ok p → find_by (λ y. eqb (key y) x) rs ≡ some (get_or rs p d)
     found_record d e = let i = found_is x p rs e in rw i.1 (found_first d x rs i.0)
 
     module _ (up : T (ascending (map key rs))) where
-      pub absent_record : lookup x (map key rs) ≡ Absent p → find_by (λ y. eqb (key y) x) rs ≡ none
+      pub absent_record : lookup x (map key rs) ≡ Err p → find_by (λ y. eqb (key y) x) rs ≡ none
       absent_record e = unheld_none x rs up (absent_is x p rs e).0
 
-      pub remove_found : lookup x (map key rs) ≡ Found p → remove_at p rs ≡ keep (other_than x) rs
+      pub remove_found : lookup x (map key rs) ≡ Ok p → remove_at p rs ≡ keep (other_than x) rs
       remove_found e = let i = found_is x p rs e in rw i.1 (removed_at x rs up i.0)
 
-      pub change_found : (d : A) (f : A → A) → ((y : A) → T (other_than x y) → f y ≡ y) → lookup x (map key rs) ≡ Found p → set rs p (f (get_or rs p d)) ≡ map f rs
+      pub change_found : (d : A) (f : A → A) → ((y : A) → T (other_than x y) → f y ≡ y) → lookup x (map key rs) ≡ Ok p → set rs p (f (get_or rs p d)) ≡ map f rs
       change_found d f other e = let i = found_is x p rs e in rw i.1 (changed_at d f x other rs up i.0)
 
   module _ (r : A) (p : ℕ) (rs : List A) where
-    pub insert_absent : lookup (key r) (map key rs) ≡ Absent p → insert_at p r rs ≡ insert_by key r rs
+    pub insert_absent : lookup (key r) (map key rs) ≡ Err p → insert_at p r rs ≡ insert_by key r rs
     insert_absent e = rw (absent_is (key r) p rs e).1 (at_place r rs)
 
-    pub replace_found : T (ascending (map key rs)) → lookup (key r) (map key rs) ≡ Found p → set rs p r ≡ insert_by key r (keep (other_than (key r)) rs)
+    pub replace_found : T (ascending (map key rs)) → lookup (key r) (map key rs) ≡ Ok p → set rs p r ≡ insert_by key r (keep (other_than (key r)) rs)
     replace_found up e = let i = found_is (key r) p rs e in rw i.1 (replaced_at r rs up i.0)

@@ -1,5 +1,6 @@
 -- What the calls inside each function leave, over plain lists: the part from a place to the end that is lent, and the count.
 -- Assumes nothing.
+use Rattle.std.specs.Prelude.{Result, Ok, Err}
 use mathlib.Core.Path.{◌≡◌, refl, sym, ap, ◌∙◌}
 use mathlib.Core.Bool.{Bool, true, false}
 use mathlib.Core.List.{List, ◌++◌, map}
@@ -14,8 +15,6 @@ use Rattle.octets.specs.Octets.{be, number, part, put, zeros, slices}
 use Rattle.octets.proofs.Put.{put_lent, length_part}
 use Rattle.octets.proofs.Numbers.{length_slices}
 use Rattle.areas.specs.Records.{key_of, lookup, inserted, removed, replaced}
-use Rattle.areas.specs.declared.Lookup.{Lookup}
-use Rattle.areas.specs.declared.Lookup.TheVariants.{Found, Absent}
 use Rattle.areas.proofs.Places.{found_within, absent_within}
 use Rattle.areas.specs.declared.Area.{Area}
 use Rattle.areas.specs.Counted.{Fits, count_in, area_in, place_in, inserted_in, removed_in, replaced_in, cleared_in, with_record, without_record}
@@ -59,17 +58,17 @@ module _ (a : Area) (s : List ℕ) where
   pub after_counted : (end n w : ℕ) → End end → Fits a (length s) → n ≡ count_in a s → count_in a s < a.room → w ≡ a.width → (n + 1) * w ≤ length (between a.at end s)
   after_counted end n w e f c h k = room_after end n w e f (rw c h) k
 
-  pub place_none : (n x : ℕ) → n ≡ count_in a s → a.room < n → Absent 0 ≡ place_in a x s
+  pub place_none : (n x : ℕ) → n ≡ count_in a s → a.room < n → Err 0 ≡ place_in a x s
   unfolding place_in
   place_none n x e h = rw (← e, lt-ltb a.room n h)
 
-  pub place_found : (end n x : ℕ) (p : Lookup) → End end → n ≡ count_in a s → n ≤ a.room → p ≡ lookup x (map (key_of a.key) (slices a.width n (between a.at end s)))
+  pub place_found : (end n x : ℕ) (p : Result ℕ ℕ) → End end → n ≡ count_in a s → n ≤ a.room → p ≡ lookup x (map (key_of a.key) (slices a.width n (between a.at end s)))
       → p ≡ place_in a x s
   unfolding place_in
   place_found end n x p d e h q = q ∙ rw (← e, le-ltb a.room n h, exact end d)
 
   -- a key of nine octets
-  pub place_pair : (end n x : ℕ) (p : Lookup) → End end → n ≡ count_in a s → n ≤ a.room → a.key ≡ 9 → p ≡ lookup x (map (key_of 9) (slices a.width n (between a.at end s)))
+  pub place_pair : (end n x : ℕ) (p : Result ℕ ℕ) → End end → n ≡ count_in a s → n ≤ a.room → a.key ≡ 9 → p ≡ lookup x (map (key_of 9) (slices a.width n (between a.at end s)))
       → p ≡ place_in a x s
   place_pair end n x p d e h k q = place_found end n x p d e h (q ∙ ap (λ (j : ℕ). lookup x (map (key_of j) (slices a.width n (between a.at end s)))) (sym k))
 
@@ -98,43 +97,43 @@ module _ (a : Area) (s : List ℕ) where
   cleared_in_lem mid done e d = d ∙ rw e
 
   -- a place that was found holds one of the records, and a place that was not is not past them
-  pub found_room : (x p : ℕ) → place_in a x s ≡ Found p → (p < count_in a s) × (count_in a s ≤ a.room)
+  pub found_room : (x p : ℕ) → place_in a x s ≡ Ok p → (p < count_in a s) × (count_in a s ≤ a.room)
   unfolding place_in
   found_room x p e = go (ltb a.room (count_in a s)) refl e
     where
       go : (b : Bool) → ltb a.room (count_in a s) ≡ b
-          → pick b (Absent 0) (lookup x (map (key_of a.key) (slices a.width (count_in a s) (area_in a s)))) ≡ Found p
+          → pick b (Err 0) (lookup x (map (key_of a.key) (slices a.width (count_in a s) (area_in a s)))) ≡ Ok p
           → (p < count_in a s) × (count_in a s ≤ a.room)
       go true t q = absurd (let z : ◌≡◌ {A = ℕ} 0 1 = cc in omega arith)
       go false t q =
           (rw (← length_slices a.width (count_in a s) (area_in a s)) (found_within (key_of a.key) x p (slices a.width (count_in a s) (area_in a s)) q), ltb-false _ _ t)
 
-  pub absent_room : (x p : ℕ) → place_in a x s ≡ Absent p → p ≤ count_in a s
+  pub absent_room : (x p : ℕ) → place_in a x s ≡ Err p → p ≤ count_in a s
   unfolding place_in
   absent_room x p e = go (ltb a.room (count_in a s)) e
     where
-      go : (b : Bool) → pick b (Absent 0) (lookup x (map (key_of a.key) (slices a.width (count_in a s) (area_in a s)))) ≡ Absent p → p ≤ count_in a s
+      go : (b : Bool) → pick b (Err 0) (lookup x (map (key_of a.key) (slices a.width (count_in a s) (area_in a s)))) ≡ Err p → p ≤ count_in a s
       go true q = let z : 0 ≡ p = cc in omega arith
       go false q = rw (← length_slices a.width (count_in a s) (area_in a s)) (absent_within (key_of a.key) x p (slices a.width (count_in a s) (area_in a s)) q)
 
   -- the cases of putting a record in and taking one out
-  module _ (x p : ℕ) (place : Lookup) (q : place ≡ place_in a x s) where
-    pub put_over_found : (r done : List ℕ) → x ≡ number (part 0 a.key r) → place ≡ Found p → done ≡ replaced_in a p r s → done ≡ with_record a r s
+  module _ (x p : ℕ) (place : Result ℕ ℕ) (q : place ≡ place_in a x s) where
+    pub put_over_found : (r done : List ℕ) → x ≡ number (part 0 a.key r) → place ≡ Ok p → done ≡ replaced_in a p r s → done ≡ with_record a r s
     unfolding with_record key_of
     put_over_found r done k e d = d ∙ rw (← k, ← q, e)
 
-    pub put_in_absent : (n : ℕ) (r done : List ℕ) → x ≡ number (part 0 a.key r) → place ≡ Absent p → n ≡ count_in a s → n < a.room → done ≡ inserted_in a p r s → done ≡ with_record a r s
+    pub put_in_absent : (n : ℕ) (r done : List ℕ) → x ≡ number (part 0 a.key r) → place ≡ Err p → n ≡ count_in a s → n < a.room → done ≡ inserted_in a p r s → done ≡ with_record a r s
     unfolding with_record key_of
     put_in_absent n r done k e c l d = d ∙ rw (← k, ← q, e, ← c, lt-ltb n a.room l)
 
-    pub put_nowhere : (n : ℕ) (r : List ℕ) → x ≡ number (part 0 a.key r) → place ≡ Absent p → n ≡ count_in a s → a.room ≤ n → s ≡ with_record a r s
+    pub put_nowhere : (n : ℕ) (r : List ℕ) → x ≡ number (part 0 a.key r) → place ≡ Err p → n ≡ count_in a s → a.room ≤ n → s ≡ with_record a r s
     unfolding with_record key_of
     put_nowhere n r k e c l = rw (← k, ← q, e, ← c, le-ltb n a.room l)
 
-    pub take_out_lem : (done : List ℕ) → place ≡ Found p → done ≡ removed_in a p s → done ≡ without_record a x s
+    pub take_out_lem : (done : List ℕ) → place ≡ Ok p → done ≡ removed_in a p s → done ≡ without_record a x s
     unfolding without_record
     take_out_lem done e d = d ∙ rw (← q, e)
 
-    pub take_none : place ≡ Absent p → s ≡ without_record a x s
+    pub take_none : place ≡ Err p → s ≡ without_record a x s
     unfolding without_record
     take_none e = rw (← q, e)

@@ -1,11 +1,9 @@
 -- Octets that hold an area of records and, elsewhere, how many there are: what is found there, and what putting a record in and taking one
 -- out leave. Assumes nothing.
-use Rattle.std.specs.Prelude.{List, map, ℕ, ◌+◌, ◌-◌, ◌*◌, ◌≤◌, ltb}
+use Rattle.std.specs.Prelude.{Result, Ok, Err, List, map, ℕ, ◌+◌, ◌-◌, ◌*◌, ◌≤◌, ltb}
 use Rattle.octets.specs.Choice.{pick}
 use Rattle.octets.specs.Octets.{be, number_at, part, put, zeros, slices}
 use Rattle.areas.specs.Records.{key_of, lookup, inserted, removed, replaced}
-use Rattle.areas.specs.declared.Lookup.{Lookup}
-use Rattle.areas.specs.declared.Lookup.TheVariants.{Found, Absent}
 use Rattle.areas.specs.declared.Area.{Area}
 
 -- octets of a length have room for the count and the records
@@ -23,8 +21,8 @@ unfoldable pub area_in : Area → List ℕ → List ℕ
 area_in a s = part a.at (a.room * a.width) s
 
 -- where a key stands or has its place; an area that counts more than it has room for has none
-unfoldable pub place_in : Area → ℕ → List ℕ → Lookup
-place_in a x s = pick (ltb a.room (count_in a s)) (Absent 0) (lookup x (map (key_of a.key) (slices a.width (count_in a s) (area_in a s))))
+unfoldable pub place_in : Area → ℕ → List ℕ → Result ℕ ℕ
+place_in a x s = pick (ltb a.room (count_in a s)) (Err 0) (lookup x (map (key_of a.key) (slices a.width (count_in a s) (area_in a s))))
 
 -- ---- what is left after a change at a place
 
@@ -43,9 +41,9 @@ cleared_in a s = put a.count_at (be a.count_width 0) (put a.at (zeros (a.room * 
 -- ---- by key
 
 -- by whether the key is there
-abbrev pub at_place : Lookup → (ℕ → List ℕ) → (ℕ → List ℕ) → List ℕ
-at_place (Found p) there absent = there p
-at_place (Absent p) there absent = absent p
+abbrev pub at_place : Result ℕ ℕ → (ℕ → List ℕ) → (ℕ → List ℕ) → List ℕ
+at_place (Ok p) there absent = there p
+at_place (Err p) there absent = absent p
 
 -- r over the record of its key, or put in where there is room
 unfoldable pub with_record : Area → List ℕ → List ℕ → List ℕ

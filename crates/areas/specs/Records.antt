@@ -1,10 +1,8 @@
 -- Records of one width that stand one after the other in octets, each with a key in its first octets.
 -- Assumes nothing.
-use Rattle.std.specs.Prelude.{List, [], ◌∷◌, ◌++◌, ℕ, suc, ◌+◌, ◌-◌, ◌*◌, ◌^◌, leb, eqb, length, take}
+use Rattle.std.specs.Prelude.{Result, Ok, Err, List, [], ◌∷◌, ◌++◌, ℕ, suc, ◌+◌, ◌-◌, ◌*◌, ◌^◌, leb, eqb, length, take}
 use Rattle.octets.specs.Choice.{pick}
 use Rattle.octets.specs.Octets.{part, put, number, zeros}
-use Rattle.areas.specs.declared.Lookup.{Lookup}
-use Rattle.areas.specs.declared.Lookup.TheVariants.{Found, Absent}
 
 -- a record's key: the number of its first k octets
 unfoldable pub key_of : ℕ → List ℕ → ℕ
@@ -15,11 +13,11 @@ abbrev pub pair_key : ℕ → ℕ → ℕ
 pair_key hi lo = hi * 2 ^ 64 + lo
 
 -- where the key x stands among the keys, or has its place, counted from i: the first key that is not below x
-unfoldable pub lookup_from : ℕ → ℕ → List ℕ → Lookup
-lookup_from i x [] = Absent i
-lookup_from i x (y ∷ ys) = let t = lookup_from (suc i) x ys in pick (leb x y) (pick (eqb y x) (Found i) (Absent i)) t
+unfoldable pub lookup_from : ℕ → ℕ → List ℕ → Result ℕ ℕ
+lookup_from i x [] = Err i
+lookup_from i x (y ∷ ys) = let t = lookup_from (suc i) x ys in pick (leb x y) (pick (eqb y x) (Ok i) (Err i)) t
 
-abbrev pub lookup : ℕ → List ℕ → Lookup
+abbrev pub lookup : ℕ → List ℕ → Result ℕ ℕ
 lookup x keys = lookup_from 0 x keys
 
 -- the first n records of s, with r put in at place p: the records from p on stand one place further

@@ -8,13 +8,6 @@ ghost use Rattle.areas.specs.Counted.{Fits, count_in, place_in, inserted_in, rem
 
 pub mod slots;
 
-// Where a key stands, or where a record with that key has its place.
-#[derive(Clone, Copy)]
-pub enum Lookup {
-    Found(usize),
-    Absent(usize),
-}
-
 // Where an area stands: its count, of count_width octets at count_at; its records, room for `room` of them of `width` octets
 // each from `at` on; a record's key is the number of its first `key` octets.
 #[derive(Clone, Copy)]
@@ -35,14 +28,14 @@ pub fn count(s: &[u8], a: Area) -> usize
     octets::read(s, a.count_at, a.count_width) as usize
 }
 
-// Where the record of a key stands, or has its place. An area that counts more records than it has room for has none.
-pub fn find(s: &[u8], a: Area, x: u64) -> Lookup
+// Where the record of a key stands, Ok, or has its place, Err. An area that counts more records than it has room for has none.
+pub fn find(s: &[u8], a: Area, x: u64) -> Result<usize, usize>
     requires { Fits a (length s.now) × (a.key ≤ 8) }
     ensures { result ≡ place_in a x s.now }
 {
     let n = count(s, a);
     if a.room < n {
-        return Lookup::Absent(0);
+        return Err(0);
     }
     let at = a.at;
     let end = at + a.room * a.width;
@@ -50,13 +43,13 @@ pub fn find(s: &[u8], a: Area, x: u64) -> Lookup
 }
 
 // The same for a key of nine octets, in two numbers.
-pub fn find_pair(s: &[u8], a: Area, hi: u64, lo: u64) -> Lookup
+pub fn find_pair(s: &[u8], a: Area, hi: u64, lo: u64) -> Result<usize, usize>
     requires { Fits a (length s.now) × (a.key ≡ 9) }
     ensures { result ≡ place_in a (pair_key hi lo) s.now }
 {
     let n = count(s, a);
     if a.room < n {
-        return Lookup::Absent(0);
+        return Err(0);
     }
     let at = a.at;
     let end = at + a.room * a.width;
@@ -114,8 +107,8 @@ pub fn put_record(s: &mut [u8], a: Area, r: &[u8])
     let x = octets::read(r, 0, a.key);
     let place = find(s, a, x);
     match place {
-        Lookup::Found(p) => replace(s, a, p, r),
-        Lookup::Absent(p) => {
+        Ok(p) => replace(s, a, p, r),
+        Err(p) => {
             if count(s, a) < a.room {
                 insert(s, a, p, r);
             }
@@ -129,7 +122,7 @@ pub fn drop_record(s: &mut [u8], a: Area, x: u64)
     ensures { s.new ≡ without_record a x s.old }
 {
     let place = find(s, a, x);
-    let Lookup::Found(p) = place else {
+    let Ok(p) = place else {
         return;
     };
     remove(s, a, p);

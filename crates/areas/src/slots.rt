@@ -6,10 +6,9 @@ ghost use Rattle.std.specs.Prelude.{◌≡◌, map, ◌+◌, ◌*◌, ◌≤◌,
 ghost use Rattle.octets.specs.Octets.{slices};
 ghost use Rattle.areas.specs.Records.{key_of, pair_key, lookup, inserted, removed, replaced};
 
-use crate::Lookup;
 
 // Looks for the key x among the n records: the first record whose key is not below x.
-pub fn find(s: &[u8], w: usize, k: usize, n: usize, x: u64) -> Lookup
+pub fn find(s: &[u8], w: usize, k: usize, n: usize, x: u64) -> Result<usize, usize>
     requires { (n * w ≤ length s.now) × (k ≤ w) × (k ≤ 8) }
     ensures { result ≡ lookup x (map (key_of k) (slices w n s.now)) }
 {
@@ -17,12 +16,12 @@ pub fn find(s: &[u8], w: usize, k: usize, n: usize, x: u64) -> Lookup
         let y = octets::read(s, i * w, k);
         if x <= y {
             if y == x {
-                return Lookup::Found(i);
+                return Ok(i);
             }
-            return Lookup::Absent(i);
+            return Err(i);
         }
     }
-    Lookup::Absent(n)
+    Err(n)
 }
 
 // Whether a key of nine octets, in two numbers, is not below another.
@@ -52,7 +51,7 @@ fn is_pair(y: u64, z: u64, hi: u64, lo: u64) -> bool
 }
 
 // Looks for a key of nine octets, the first octet and the other eight as a number, among the n records.
-pub fn find_pair(s: &[u8], w: usize, n: usize, hi: u64, lo: u64) -> Lookup
+pub fn find_pair(s: &[u8], w: usize, n: usize, hi: u64, lo: u64) -> Result<usize, usize>
     requires { (n * w ≤ length s.now) × (9 ≤ w) }
     ensures { result ≡ lookup (pair_key hi lo) (map (key_of 9) (slices w n s.now)) }
 {
@@ -62,12 +61,12 @@ pub fn find_pair(s: &[u8], w: usize, n: usize, hi: u64, lo: u64) -> Lookup
         let z = octets::read(s, at + 1, 8);
         if reaches(y, z, hi, lo) {
             if is_pair(y, z, hi, lo) {
-                return Lookup::Found(i);
+                return Ok(i);
             }
-            return Lookup::Absent(i);
+            return Err(i);
         }
     }
-    Lookup::Absent(n)
+    Err(n)
 }
 
 // Puts the record r in at place p, after moving the records from there on up by one place.

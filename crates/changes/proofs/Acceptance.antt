@@ -1,5 +1,6 @@
 -- What an accepted establishment or modification leaves.
 -- Assumes nothing.
+use Rattle.std.specs.Prelude.{Result}
 use mathlib.Core.Path.{◌≡◌, sym, ap, ap₂, ◌∙◌, subst}
 use mathlib.Core.List.{List}
 use mathlib.Core.Bool.{true}
@@ -39,11 +40,9 @@ use Rattle.grants.proofs.ChoiceLaws.{choice_fits}
 use Rattle.writing.specs.Placed.{written}
 use Rattle.created.specs.Groups.{id_fits}
 use Rattle.created.specs.Entries.{max_grants, tolds_at, reports_at, within}
-use Rattle.areas.specs.declared.Lookup.{Lookup}
 use Rattle.areas.specs.Records.{key_of}
 use Rattle.areas.specs.Counted.{place_in, with_record}
 use Rattle.session.specs.Areas.{table_area}
-use Rattle.session.specs.Places.{looked_up}
 use Rattle.session.specs.Build.{built}
 use Rattle.session.proofs.Built.{Ready}
 use Rattle.unit.specs.declared.Settings.{Settings as Unit}
@@ -201,7 +200,7 @@ module _ {k : Known} {d : Told} {t words ips msg slot gone plan out : List ℕ} 
     same_reply_lem = λ i. reply s who msg (same_seid i) (sym a.verdict i) (same_reports i)
 
     -- the session that is built has its place where the one at entry stands
-    pub keep_place : place_in (table_area u.limit) (key_of key_width (built gone (rows_of n plan') slot)) t ≡ looked_up d.live d.place
+    pub keep_place : place_in (table_area u.limit) (key_of key_width (built gone (rows_of n plan') slot)) t ≡ d.place
     keep_place =
         ap₂ (λ (l x : ℕ). place_in (table_area l) x t) (limit_is u s a.settings)
         (built_key s kept.settings who a.asked.peer m kept.sessions msg a.asked.octets a.asked.kind a.asked.named passes a.other seid d.restoring d.noted gone (rows_of n plan') slot means' a.removed a.entry is_ready)
@@ -234,7 +233,7 @@ pub gives_all : {u : Unit} {teids ips plan : List ℕ} {n r : ℕ} {between plan
 gives_all {between = between} {chosen = chosen} {count = count} g e f = record { count = count; between = between; chosen = chosen; granted = g; address = e; few = f.0; reported = f.1 }
 
 -- the place of what was built
-pub kept_place : (room n : ℕ) (gone plan slot slot' t : List ℕ) (q : Lookup) → slot' ≡ built gone (rows_of n plan) slot → place_in (table_area room) (key_of key_width (built gone (rows_of n plan) slot)) t ≡ q
+pub kept_place : (room n : ℕ) (gone plan slot slot' t : List ℕ) (q : Result ℕ ℕ) → slot' ≡ built gone (rows_of n plan) slot → place_in (table_area room) (key_of key_width (built gone (rows_of n plan) slot)) t ≡ q
     → place_in (table_area room) (key_of key_width slot') t ≡ q
 kept_place room n gone plan slot slot' t q b e = ap (λ (l : List ℕ). place_in (table_area room) (key_of key_width l) t) b ∙ e
 

@@ -26,7 +26,6 @@ use Rattle.stages.specs.declared.Known.{Known}
 use Rattle.stages.specs.declared.Told.{Told}
 use Rattle.changes.specs.Answers.{OnlyNull, Answers, Replies, Refusing}
 use Rattle.changes.specs.Steps.{Changing, Readable, Fetching, told_of, Fetched, Entered}
-use Rattle.session.specs.declared.Place.{Place}
 use Rattle.changes.proofs.Entering.{Entering, fetch_asks, entered}
 use Rattle.changes.proofs.Faults.{Faulted, replies_fault, not_framed_refuses, not_read_refuses}
 use Rattle.changes.proofs.VerdictSteps.{read_through}
@@ -108,7 +107,7 @@ module _ {k : Known} {t msg out : List ℕ} {at : ℕ} (ch : Changing k t msg ou
     rows_within : w.rows * row_width ≤ length plan
     rows_within = let h : row_width * w.rows ≤ length plan = subst (λ (x : Result Plan Fault). row_width * rows_left x ≤ length plan) is given.room in omega arith
 
-    readable : (place : Place) → Readable k (told_of w place) t msg out plan
+    readable : (place : Result ℕ ℕ) → Readable k (told_of w place) t msg out plan
     readable place =
         record {
           asked = ch.asked;
@@ -132,7 +131,7 @@ module _ {k : Known} {t msg out : List ℕ} {at : ℕ} (ch : Changing k t msg ou
           answers = a;
           placed =
               sym (ap (λ (v : Verdict). v.place)
-              ((readable (record { live = false; at = 0 })).verdict ∙ judge_plain (kind_of msg) (view_settings t) k.share.peer (view_sessions t) (entry_session k.share.peer (view_sessions t) msg) (read_request msg)));
+              ((readable (Err 0)).verdict ∙ judge_plain (kind_of msg) (view_settings t) k.share.peer (view_sessions t) (entry_session k.share.peer (view_sessions t) msg) (read_request msg)));
         }
 
     -- the session at entry: what fetching it asks, and that it is it

@@ -1,5 +1,7 @@
 -- The session at entry: whether a SEID is live, and the session in its slot.
 -- Assumes nothing.
+use Rattle.std.specs.Result.{is_ok}
+use Rattle.std.specs.Prelude.{Result, Ok, Err}
 use mathlib.Core.Path.{◌≡◌, refl, sym, ap, ◌∙◌, subst}
 use mathlib.Core.Bool.{Bool, true, false}
 use mathlib.Core.Option.{some}
@@ -25,14 +27,10 @@ use Rattle.laws.proofs.LayoutLaws.{session_back}
 use Rattle.laws.proofs.PeerLaws.{peer_cases}
 use Rattle.laws.proofs.KeptRules.{TableKept, table_kept, sessions_kept}
 use Rattle.invariants.proofs.Changed.{found_has}
-use Rattle.areas.specs.declared.Lookup.{Lookup}
-use Rattle.areas.specs.declared.Lookup.TheVariants.{Found, Absent}
 use Rattle.areas.specs.declared.Area.{Area}
 use Rattle.areas.specs.Records.{pair_key}
 use Rattle.areas.specs.Counted.{area_in, place_in}
 use Rattle.session.specs.Areas.{table_area}
-use Rattle.session.specs.Places.{looked_up, placed}
-use Rattle.session.specs.declared.Place.{Place}
 use Rattle.session.proofs.Saved.{session_found, session_absent, session_loaded, fresh_slot}
 use Rattle.stages.proofs.EntryLaws.{slot_live, slot_new}
 use Rattle.request.specs.declared.Plan.{Plan}
@@ -54,13 +52,13 @@ place_there f n = f.there n
 
 -- the slot of a live session, as it was copied
 pub fetched_old : {t slot slot' : List ℕ} {room kind who p : ℕ} {w : Plan} {q : Told} → Fetching t slot room kind w.seid p → (kind ≡ establishment → ⊥) → length slot' ≡ length slot
-    → slot' ≡ part (p * session_width) session_width (area_in (table_area room) t) → q ≡ told_of w (record { live = true; at = p }) → Fetched t room kind who p w q slot'
-fetched_old {p = p} f n l e d = record { at = record { live = true; at = p }; told = d; long = l ∙ f.long; new = λ z. absurd (n z); sought = λ z. absurd (n z); still = λ z. refl; old = λ z. e }
+    → slot' ≡ part (p * session_width) session_width (area_in (table_area room) t) → q ≡ told_of w (Ok p) → Fetched t room kind who p w q slot'
+fetched_old {p = p} f n l e d = record { at = Ok p; told = d; long = l ∙ f.long; new = λ z. absurd (n z); sought = λ z. absurd (n z); still = λ z. refl; old = λ z. e }
 
 -- the slot of a new one
-pub fetched_new : {t slot slot' : List ℕ} {room kind who p : ℕ} {w : Plan} {q : Told} {at : Place} → Fetching t slot room kind w.seid p → kind ≡ establishment → length slot' ≡ length slot
-    → slot' ≡ put 1 (be 8 w.seid) (put 0 (be 1 who) (zeros session_width)) → place_in (table_area room) (pair_key who w.seid) t ≡ placed at → q ≡ told_of w at → Fetched t room kind who p w q slot'
-fetched_new {at = at} f n l e s d = record { at = at; told = d; long = l ∙ f.long; new = λ z. e; sought = λ z. s; still = λ z. absurd (z n); old = λ z. absurd (z n) }
+pub fetched_new : {t slot slot' : List ℕ} {room kind who p : ℕ} {w : Plan} {q : Told} {at : Result ℕ ℕ} → Fetching t slot room kind w.seid p → kind ≡ establishment → length slot' ≡ length slot
+    → slot' ≡ put 1 (be 8 w.seid) (put 0 (be 1 who) (zeros session_width)) → at ≡ place_in (table_area room) (pair_key who w.seid) t → q ≡ told_of w at → Fetched t room kind who p w q slot'
+fetched_new {at = at} f n l e s d = record { at = at; told = d; long = l ∙ f.long; new = λ z. e; sought = λ z. sym s; still = λ z. absurd (z n); old = λ z. absurd (z n) }
 
 -- where the session at entry comes from: the SEID of an establishment's F-SEID, or the place of the header's session in the table
 pub record Entering (k : Known) (seid : ℕ) (t msg : List ℕ) (p : ℕ) : Type 0 where
@@ -71,7 +69,7 @@ pub record Entering (k : Known) (seid : ℕ) (t msg : List ℕ) (p : ℕ) : Type
   pub named : eqb (kind_of msg) set_deletion ≡ false
   pub new : k.kind ≡ establishment → seid ≡ (read_request msg).seid
   pub fits : seid < 2 ^ 64
-  pub found : (k.kind ≡ establishment → ⊥) → place_in (table_area (view_settings t).limit) (key_for k.share.peer (header_seid msg)) t ≡ Found p
+  pub found : (k.kind ≡ establishment → ⊥) → place_in (table_area (view_settings t).limit) (key_for k.share.peer (header_seid msg)) t ≡ Ok p
 
 module _ (t : List ℕ) (h : T (sound t)) where
   abbrev s : Settings
@@ -86,23 +84,23 @@ module _ (t : List ℕ) (h : T (sound t)) where
   kept : TableKept t
   kept = table_kept t h
 
-  at_place : (n room : ℕ) (r q : Lookup) → room ≡ s.limit → r ≡ place_in (table_area room) n t → r ≡ q → place_in area n (encode s m) ≡ q
+  at_place : (n room : ℕ) (r q : Result ℕ ℕ) → room ≡ s.limit → r ≡ place_in (table_area room) n t → r ≡ q → place_in area n (encode s m) ≡ q
   at_place n room r q l e d = ap (place_in area n) kept.encoded ∙ ap (λ (z : ℕ). place_in (table_area z) n t) (sym l) ∙ sym e ∙ d
 
-  pub live_found : (who n p room : ℕ) (r : Lookup) → room ≡ s.limit → r ≡ place_in (table_area room) (pair_key who n) t → r ≡ Found p → true ≡ is_live (key_for who n) (view_sessions t)
+  pub live_found : (who n p room : ℕ) (r : Result ℕ ℕ) → room ≡ s.limit → r ≡ place_in (table_area room) (pair_key who n) t → r ≡ Ok p → true ≡ is_live (key_for who n) (view_sessions t)
   unfolding is_live key_for
   live_found who n p room r l e d =
-      sym (ap is_some (session_found s kept.settings m kept.sessions (pair_key who n) p (new_session 0 0) (at_place (pair_key who n) room r (Found p) l e d)).1)
+      sym (ap is_some (session_found s kept.settings m kept.sessions (pair_key who n) p (new_session 0 0) (at_place (pair_key who n) room r (Ok p) l e d)).1)
 
-  pub live_absent : (who n p room : ℕ) (r : Lookup) → room ≡ s.limit → r ≡ place_in (table_area room) (pair_key who n) t → r ≡ Absent p → false ≡ is_live (key_for who n) (view_sessions t)
+  pub live_absent : (who n p room : ℕ) (r : Result ℕ ℕ) → room ≡ s.limit → r ≡ place_in (table_area room) (pair_key who n) t → r ≡ Err p → false ≡ is_live (key_for who n) (view_sessions t)
   unfolding is_live key_for
   live_absent who n p room r l e d =
-      sym (ap is_some (session_absent s kept.settings m kept.sessions (pair_key who n) p (at_place (pair_key who n) room r (Absent p) l e d)))
+      sym (ap is_some (session_absent s kept.settings m kept.sessions (pair_key who n) p (at_place (pair_key who n) room r (Err p) l e d)))
 
   -- by what was looked up
-  live_is : (who n p room : ℕ) (live : Bool) → room ≡ s.limit → place_in (table_area room) (pair_key who n) t ≡ looked_up live p → live ≡ is_live (key_for who n) (view_sessions t)
-  live_is who n p room true l e = live_found who n p room (Found p) l (sym e) refl
-  live_is who n p room false l e = live_absent who n p room (Absent p) l (sym e) refl
+  live_is : (who n room : ℕ) (r : Result ℕ ℕ) → room ≡ s.limit → place_in (table_area room) (pair_key who n) t ≡ r → is_ok r ≡ is_live (key_for who n) (view_sessions t)
+  live_is who n room (Ok p) l e = live_found who n p room (Ok p) l (sym e) refl
+  live_is who n room (Err p) l e = live_absent who n p room (Err p) l (sym e) refl
 
   each_allowed : T (all (session_allowed s) m)
   each_allowed = (sessions_kept s m kept.sessions).sessions
@@ -142,8 +140,8 @@ module _ (k : Known) (w : Plan) (t msg : List ℕ) (p : ℕ) (a : Entering k w.s
   seid = w.seid
 
   -- a new session in its slot
-  entered_new : (at : Place) (slot : List ℕ) → k.kind ≡ establishment → slot ≡ put 1 (be 8 seid) (put 0 (be 1 who) (zeros session_width)) → length slot ≡ session_width
-      → place_in (table_area (view_settings t).limit) (pair_key who seid) t ≡ placed at → Entered k (told_of w at) t msg slot
+  entered_new : (at : Result ℕ ℕ) (slot : List ℕ) → k.kind ≡ establishment → slot ≡ put 1 (be 8 seid) (put 0 (be 1 who) (zeros session_width)) → length slot ≡ session_width
+      → place_in (table_area (view_settings t).limit) (pair_key who seid) t ≡ at → Entered k (told_of w at) t msg slot
   entered_new place slot new e long l =
       let small : who < 256 = peer_cases (λ (n : ℕ). n < 256) (omega arith) (omega arith) who a.peer in
       let fresh : slot ≡ session_octets (new_session who seid) = e ∙ fresh_slot who seid small in
@@ -155,7 +153,7 @@ module _ (k : Known) (w : Plan) (t msg : List ℕ) (p : ℕ) (a : Entering k w.s
         viewed = viewed ∙ at;
         place = slot_new slot who seid long viewed;
         stands = ap (λ (n : ℕ). place_in (table_area (view_settings t).limit) n t) (sym key) ∙ l;
-        known = λ z. live_is t a.table who seid place.at (view_settings t).limit place.live refl l;
+        known = λ z. live_is t a.table who seid (view_settings t).limit place refl l;
       }
 
   -- a live session in its slot
@@ -172,7 +170,7 @@ module _ (k : Known) (w : Plan) (t msg : List ℕ) (p : ℕ) (a : Entering k w.s
     abbrev key : ℕ
     key = key_for who (header_seid msg)
 
-    there : place_in area' key (encode (view_settings t) (view_sessions t)) ≡ Found p
+    there : place_in area' key (encode (view_settings t) (view_sessions t)) ≡ Ok p
     there = ap (place_in area' key) kept_table.encoded ∙ a.found other
 
     found : (p < (view_settings t).limit) × (session_of key (view_sessions t) ≡ some x)
@@ -192,7 +190,7 @@ module _ (k : Known) (w : Plan) (t msg : List ℕ) (p : ℕ) (a : Entering k w.s
     unfolding session_of
     same_key = ap (λ (y : Session). session_key y) (sym is_entry) ∙ found_has (view_sessions t) key x found.1
 
-    entered_live : (at : Place) → placed at ≡ Found p → (slot : List ℕ) → slot ≡ part (p * session_width) session_width (area_in area' t) → length slot ≡ session_width → Entered k (told_of w at) t msg slot
+    entered_live : (at : Result ℕ ℕ) → at ≡ Ok p → (slot : List ℕ) → slot ≡ part (p * session_width) session_width (area_in area' t) → length slot ≡ session_width → Entered k (told_of w at) t msg slot
     unfolding x
     entered_live at still slot e long =
         let loaded : slot ≡ session_octets x =

@@ -17,7 +17,6 @@ use Rattle.rules.specs.Types as ie
 use Rattle.rules.specs.Causes as why
 use Rattle.areas.specs.Counted.{place_in}
 use Rattle.session.specs.Areas.{table_area}
-use Rattle.session.specs.Places.{looked_up}
 use Rattle.unit.specs.Meaning.{settings_of}
 use Rattle.stages.specs.declared.Known.{Known}
 use Rattle.stages.specs.declared.Told.{Told}
@@ -83,7 +82,7 @@ pub record Accepting (k : Known) (q : Told) (t words ips msg slot gone plan out 
   pub only_null : OnlyNull (rows_of q.rows plan)
   pub entry : slot ≡ session_octets (entry_session k.share.peer (view_sessions t) msg)
   pub slot_long : length slot ≡ session_width
-  pub place : place_in (table_area (view_settings t).limit) (session_key (entry_session k.share.peer (view_sessions t) msg)) t ≡ looked_up q.live q.place
+  pub place : place_in (table_area (view_settings t).limit) (session_key (entry_session k.share.peer (view_sessions t) msg)) t ≡ q.place
   pub removed : gone ≡ removed_pdrs (read_request msg) (entry_session k.share.peer (view_sessions t) msg).pdrs
   pub marks : words ≡ taken_map (view_settings t) (view_sessions t)
   pub map_long : length words ≡ map_words

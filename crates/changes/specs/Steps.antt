@@ -1,6 +1,7 @@
 -- What is known from step to step of an establishment or a modification.
 -- Assumes nothing.
-use Rattle.std.specs.Prelude.{ℕ, ◌*◌, ◌≤◌, ◌<◌, ◌^◌, ◌≡◌, false, List, T, eqb, length, take}
+use Rattle.std.specs.Result.{is_ok}
+use Rattle.std.specs.Prelude.{Result, Ok, ℕ, ◌*◌, ◌≤◌, ◌<◌, ◌^◌, ◌≡◌, false, List, T, eqb, length, take}
 use Rattle.octets.specs.Octets.{be, part, put, zeros}
 use Rattle.rules.specs.Limits.{max_pool, map_words, max_addresses, address_words}
 use Rattle.rules.specs.Model.{free_address_count, key_for, session_key}
@@ -13,11 +14,8 @@ use Rattle.plan.specs.Rows.{row_width, rows_of, request_in}
 use Rattle.areas.specs.Records.{pair_key}
 use Rattle.areas.specs.Counted.{area_in, place_in}
 use Rattle.session.specs.Areas.{table_area}
-use Rattle.session.specs.Places.{looked_up, placed}
-use Rattle.session.specs.declared.Place.{Place}
 use Rattle.unit.specs.declared.Settings.{Settings as Unit}
 use Rattle.unit.specs.Meaning.{settings_of}
-use Rattle.areas.specs.declared.Lookup.TheVariants.{Found}
 use Rattle.created.specs.Entries.{max_grants}
 use Rattle.request.specs.declared.Plan.{Plan}
 use Rattle.grants.specs.Choosing.{Granted, addressed, lowest_address, report_places}
@@ -67,17 +65,17 @@ pub record Fetching (t slot : List ℕ) (room kind seid p : ℕ) : Type 0 where
   pub long : length slot ≡ session_width
 
 -- what reading told of a request, with its session's place
-abbrev pub told_of : Plan → Place → Told
-told_of w at = record { seid = w.seid; live = at.live; place = at.at; rows = w.rows; restoring = w.restoring; noted = w.noted }
+abbrev pub told_of : Plan → Result ℕ ℕ → Told
+told_of w at = record { seid = w.seid; place = at; rows = w.rows; restoring = w.restoring; noted = w.noted }
 
 -- what it leaves and answers: the slot of a peer's new session and the place of its SEID, or the slot at the place
 pub record Fetched (t : List ℕ) (room kind who p : ℕ) (w : Plan) (q : Told) (slot : List ℕ) : Type 0 where
-  pub at : Place
+  pub at : Result ℕ ℕ
   pub told : q ≡ told_of w at
   pub long : length slot ≡ session_width
   pub new : kind ≡ establishment → slot ≡ put 1 (be 8 w.seid) (put 0 (be 1 who) (zeros session_width))
-  pub sought : kind ≡ establishment → place_in (table_area room) (pair_key who w.seid) t ≡ placed at
-  pub still : (kind ≡ establishment → ⊥) → placed at ≡ Found p
+  pub sought : kind ≡ establishment → place_in (table_area room) (pair_key who w.seid) t ≡ at
+  pub still : (kind ≡ establishment → ⊥) → at ≡ Ok p
   pub old : (kind ≡ establishment → ⊥) → slot ≡ part (p * session_width) session_width (area_in (table_area room) t)
 
 -- the session at entry in its slot, its place in the table, and whether the SEID of an establishment is live
@@ -85,8 +83,8 @@ pub record Entered (k : Known) (q : Told) (t msg slot : List ℕ) : Type 0 where
   pub entry : slot ≡ session_octets (entry_session k.share.peer (view_sessions t) msg)
   pub viewed : view_session slot ≡ entry_session k.share.peer (view_sessions t) msg
   pub place : Slot slot
-  pub stands : place_in (table_area (view_settings t).limit) (session_key (entry_session k.share.peer (view_sessions t) msg)) t ≡ looked_up q.live q.place
-  pub known : k.kind ≡ establishment → q.live ≡ is_live (key_for k.share.peer q.seid) (view_sessions t)
+  pub stands : place_in (table_area (view_settings t).limit) (session_key (entry_session k.share.peer (view_sessions t) msg)) t ≡ q.place
+  pub known : k.kind ≡ establishment → is_ok q.place ≡ is_live (key_for k.share.peer q.seid) (view_sessions t)
 
 -- a request without a fault, as the rows of its plan, that is not a deletion
 pub record Readable (k : Known) (q : Told) (t msg out plan : List ℕ) : Type 0 where
@@ -104,4 +102,4 @@ pub record Changing (k : Known) (t msg out : List ℕ) (p : ℕ) : Type 0 where
   pub live : Live t k.share.peer msg
   pub kind_is : k.kind ≡ kind_of msg
   pub other : eqb (kind_of msg) deletion ≡ false
-  pub found : (k.kind ≡ establishment → ⊥) → place_in (table_area (view_settings t).limit) (key_for k.share.peer (header_seid msg)) t ≡ Found p
+  pub found : (k.kind ≡ establishment → ⊥) → place_in (table_area (view_settings t).limit) (key_for k.share.peer (header_seid msg)) t ≡ Ok p

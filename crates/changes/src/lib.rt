@@ -10,7 +10,6 @@ ghost use Rattle.unit.specs.Meaning.{settings_of};
 ghost use Rattle.areas.specs.Records.{key_of};
 ghost use Rattle.areas.specs.Counted.{place_in, with_record};
 ghost use Rattle.session.specs.Areas.{table_area};
-ghost use Rattle.session.specs.Places.{looked_up};
 ghost use Rattle.session.specs.Build.{built};
 ghost use Rattle.request.specs.Requests.{RoomFor};
 ghost use Rattle.changes.specs.Answers.{Asked, Answers, Replies, Refusing, Accepting};
@@ -18,7 +17,6 @@ ghost use Rattle.changes.specs.Steps.{Counted, Giving, Given, Fetching, told_of,
 
 use format::{causes, kinds};
 use request::Plan;
-use session::Place;
 use stages::{Known, Told};
 use unit::Settings;
 
@@ -47,15 +45,11 @@ pub fn refuse(
 
 // The session of an accepted request: built in its slot, and the slot stored in its place of a table with so much room.
 fn keep(t: &mut [u8], room: usize, q: Told, slot: &mut [u8], gone: &[u64], plan: &[u64])
-    requires { (length t.old ≡ table_length room) × (length slot.old ≡ session_width) × (q.rows * row_width ≤ length plan.now) × (place_in (table_area room) (key_of key_width (built gone.now (rows_of q.rows plan.now) slot.old)) t.old ≡ looked_up q.live q.place) }
+    requires { (length t.old ≡ table_length room) × (length slot.old ≡ session_width) × (q.rows * row_width ≤ length plan.now) × (place_in (table_area room) (key_of key_width (built gone.now (rows_of q.rows plan.now) slot.old)) t.old ≡ q.place) }
     ensures { (slot.new ≡ built gone.now (rows_of q.rows plan.now) slot.old) × (t.new ≡ with_record (table_area room) (built gone.now (rows_of q.rows plan.now) slot.old) t.old) }
 {
     session::build(slot, gone, plan, q.rows);
-    let place = Place {
-        live: q.live,
-        at: q.place,
-    };
-    session::save(t, room, format::COUNT, place, slot);
+    session::save(t, room, format::COUNT, q.place, slot);
 }
 
 // Gives the TEIDs and the address that rows choose, by the maps of taken ones. `places` gets where the rows with something chosen begin,
@@ -101,13 +95,12 @@ fn accept(
 }
 
 // What reading told of a request, with its session's place.
-fn tell(read: Plan, place: Place) -> Told
+fn tell(read: Plan, place: Result<usize, usize>) -> Told
     ensures { result ≡ told_of read place }
 {
     Told {
         seid: read.seid,
-        live: place.live,
-        place: place.at,
+        place,
         rows: read.rows,
         restoring: read.restoring,
         noted: read.noted,
@@ -124,12 +117,11 @@ fn enter(t: &[u8], k: Known, read: Plan, p: usize, slot: &mut [u8]) -> Told
     if k.kind == kinds::ESTABLISHMENT {
         let peer = k.share.peer as u64;
         session::fresh(slot, peer, read.seid);
-        let place = session::seek(t, room, format::COUNT, peer, read.seid);
+        let place = session::find(t, room, format::COUNT, peer, read.seid);
         return tell(read, place);
     }
     session::load(t, room, format::COUNT, p, slot);
-    let place = Place { live: true, at: p };
-    tell(read, place)
+    tell(read, Ok(p))
 }
 
 // Stages 4 to 6 of a request that was read, and what follows. The PDRs that go are named once, for the stages and for the new session.

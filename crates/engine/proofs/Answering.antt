@@ -1,6 +1,6 @@
 -- Stage 1: the session that a request names.
 -- Assumes nothing.
-use Rattle.std.specs.Prelude.{None}
+use Rattle.std.specs.Prelude.{None, Result, Ok, Err}
 use mathlib.Core.Path.{◌≡◌, sym, ap, ◌∙◌}
 use mathlib.Core.Bool.{Bool, true, false, not}
 use mathlib.Core.List.{List}
@@ -16,8 +16,6 @@ use Rattle.rules.specs.Causes as why
 use Rattle.areas.specs.Records.{pair_key}
 use Rattle.areas.specs.Counted.{place_in}
 use Rattle.session.specs.Areas.{table_area}
-use Rattle.areas.specs.declared.Lookup.{Lookup}
-use Rattle.areas.specs.declared.Lookup.TheVariants.{Found, Absent}
 use Rattle.unit.specs.declared.Settings.{Settings as Unit}
 use Rattle.unit.specs.Meaning.{settings_of}
 use Rattle.unit.proofs.FieldLaws.{limit_is}
@@ -53,7 +51,7 @@ module _ (k : Known) {t msg out : List ℕ} (a : Asked t k.share.peer msg out) (
   pub deletes : k.kind ≡ deletion → kind_of msg ≡ deletion
   deletes e = sym is ∙ e
 
-  module _ (o : k.kind ≡ establishment → ⊥) (named : k.seid ≡ header_seid msg) (same : settings_of k.u ≡ view_settings t) {r : Lookup} (at : r ≡ place_in (table_area k.u.limit) (pair_key k.share.peer k.seid) t) where
+  module _ (o : k.kind ≡ establishment → ⊥) (named : k.seid ≡ header_seid msg) (same : settings_of k.u ≡ view_settings t) {r : Result ℕ ℕ} (at : r ≡ place_in (table_area k.u.limit) (pair_key k.share.peer k.seid) t) where
     room : k.u.limit ≡ (view_settings t).limit
     room = limit_is k.u (view_settings t) same
 
@@ -61,7 +59,7 @@ module _ (k : Known) {t msg out : List ℕ} (a : Asked t k.share.peer msg out) (
     at_header = at ∙ ap (λ (n : ℕ). place_in (table_area k.u.limit) (pair_key who n) t) named
 
     -- no such session: cause 65, which has no place
-    module _ {p : ℕ} (e : r ≡ Absent p) where
+    module _ {p : ℕ} (e : r ≡ Err p) where
       none_live : verdict_on t who msg ≡ plain why.no_session
       none_live =
           no_session_lem (view_settings t) who (view_sessions t) msg
@@ -73,16 +71,16 @@ module _ (k : Known) {t msg out : List ℕ} (a : Asked t k.share.peer msg out) (
       pub absent_replies : {used : ℕ} {out' : List ℕ} → Answers t k.share.peer msg out used out' t → Replies t k.share.peer msg out used 0 out' t
       absent_replies x = record { answers = x; placed = sym (ap (λ (v : Verdict). v.place) none_live) }
 
-    module _ {p : ℕ} (e : r ≡ Found p) where
+    module _ {p : ℕ} (e : r ≡ Ok p) where
       named_live : Live t k.share.peer msg
       named_live = unknown_is who (view_sessions t) msg true a.named (λ z. o (is ∙ z)) (live_found t a.table who (header_seid msg) p k.u.limit r room at_header e)
 
       -- where it stands
-      named_place : place_in (table_area (view_settings t).limit) (key_for k.share.peer (header_seid msg)) t ≡ Found p
+      named_place : place_in (table_area (view_settings t).limit) (key_for k.share.peer (header_seid msg)) t ≡ Ok p
       unfolding key_for
       named_place = ap (λ (i : ℕ). place_in (table_area i) (pair_key who (header_seid msg)) t) (sym room) ∙ sym at_header ∙ e
 
-      pub named_at : Live t k.share.peer msg × (place_in (table_area (view_settings t).limit) (key_for k.share.peer (header_seid msg)) t ≡ Found p)
+      pub named_at : Live t k.share.peer msg × (place_in (table_area (view_settings t).limit) (key_for k.share.peer (header_seid msg)) t ≡ Ok p)
       named_at = (named_live, named_place)
 
       -- a modification

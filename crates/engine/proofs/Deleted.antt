@@ -1,5 +1,6 @@
 -- What a deletion of a live session without a fault leaves.
 -- Assumes nothing.
+use Rattle.std.specs.Prelude.{Ok}
 use mathlib.Core.Path.{◌≡◌, refl, sym, ap, ◌∙◌, subst}
 use mathlib.Core.Bool.{Bool, true, false, not}
 use mathlib.Core.Option.{none}
@@ -24,7 +25,6 @@ use Rattle.rules.specs.Causes as why
 use Rattle.laws.proofs.PeerLaws.{peers_kept_lem}
 use Rattle.laws.proofs.KeptRules.{TableKept, table_kept}
 use Rattle.invariants.proofs.Changed.{entry_known}
-use Rattle.areas.specs.declared.Lookup.TheVariants.{Found}
 use Rattle.areas.specs.Counted.{count_in, place_in, removed_in}
 use Rattle.areas.proofs.Steps.{found_room}
 use Rattle.unit.specs.declared.Settings.{Settings as Unit}
@@ -45,7 +45,7 @@ use Rattle.frame.specs.declared.Spot.{Spot}
 
 -- the table without the session
 deleted_table : (s : Settings) → T (settings_allowed s) → (who : ℕ) (m : Sessions) → T (sessions_allowed s m) → (msg : List ℕ) → eqb (kind_of msg) set_deletion ≡ false → eqb (kind_of msg) deletion ≡ true
-    → (p : ℕ) → place_in (table_area s.limit) (key_for who (header_seid msg)) (encode s m) ≡ Found p → removed_in (table_area s.limit) p (encode s m) ≡ encode s (sessions_after s who m msg)
+    → (p : ℕ) → place_in (table_area s.limit) (key_for who (header_seid msg)) (encode s m) ≡ Ok p → removed_in (table_area s.limit) p (encode s m) ≡ encode s (sessions_after s who m msg)
 unfolding sessions_after follow
 deleted_table s hs who m hm msg ns e p there = session_taken s hs m hm (key_for who (header_seid msg)) p there ∙ ap (encode s) (rw (ns, e))
 
@@ -80,7 +80,7 @@ module _ (t : List ℕ) (who : ℕ) (msg out : List ℕ) (a : Asked t who msg ou
         let e = deletion_empty msg del in
         λ i. reply s who msg (sym e.seid i) (sym accepts i) (sym (no_reports_lem s m (entry_session who m msg) (read_request msg) e (granted s m (read_request msg))) i)
 
-    pub deleted_answers : (p used : ℕ) (out' t' : List ℕ) → place_in (table_area s.limit) (key_for who (header_seid msg)) t ≡ Found p → (used, out') ≡ written (reply s who msg 0 (plain why.accepted) no_reports) out
+    pub deleted_answers : (p used : ℕ) (out' t' : List ℕ) → place_in (table_area s.limit) (key_for who (header_seid msg)) t ≡ Ok p → (used, out') ≡ written (reply s who msg 0 (plain why.accepted) no_reports) out
         → t' ≡ removed_in (table_area s.limit) p t → Answers t who msg out used out' t'
     deleted_answers p used out' t' there w d =
         record {
@@ -97,7 +97,7 @@ unfolding reports_of keep
 nothing_told = refl
 
 -- one session at least stands in the table, and no more than it has room for
-module _ (u : Unit) {t : List ℕ} {who : ℕ} {msg out : List ℕ} (a : Asked t who msg out) {p : ℕ} (there : place_in (table_area (view_settings t).limit) (key_for who (header_seid msg)) t ≡ Found p) (is : settings_of u ≡ view_settings t) where
+module _ (u : Unit) {t : List ℕ} {who : ℕ} {msg out : List ℕ} (a : Asked t who msg out) {p : ℕ} (there : place_in (table_area (view_settings t).limit) (key_for who (header_seid msg)) t ≡ Ok p) (is : settings_of u ≡ view_settings t) where
   pub deleted_within : p < count_in (table_area u.limit) t
   deleted_within = rw (limit_is u (view_settings t) is) (found_room (table_area (view_settings t).limit) t (key_for who (header_seid msg)) p there).0
 
@@ -106,7 +106,7 @@ module _ (u : Unit) {t : List ℕ} {who : ℕ} {msg out : List ℕ} (a : Asked t
 
 -- from what the code's readers answer
 pub deleted_through : (u : Unit) (t : List ℕ) (who : ℕ) (msg out : List ℕ) (f : Result (Prim.Unit {0}) Spot) (p used : ℕ) (out' t' : List ℕ) → Asked t who msg out → Live t who msg → kind_of msg ≡ deletion
-    → place_in (table_area (view_settings t).limit) (key_for who (header_seid msg)) t ≡ Found p → settings_of u ≡ view_settings t
+    → place_in (table_area (view_settings t).limit) (key_for who (header_seid msg)) t ≡ Ok p → settings_of u ≡ view_settings t
     → framing_fault f ≡ frame_fault msg → f ≡ Ok tt
     → (used, out') ≡ written (reply (settings_of u) who msg 0 (plain why.accepted) (all_reports [])) out → t' ≡ removed_in (table_area u.limit) p t → Replies t who msg out used 0 out' t'
 deleted_through u t who msg out f p used out' t' a live del there is fe fq w d =

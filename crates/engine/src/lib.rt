@@ -10,11 +10,9 @@ ghost use Rattle.changes.specs.Steps.{Counted};
 ghost use Rattle.engine.specs.Steps.{Serves};
 ghost use Rattle.rules.specs.Layout.{view_settings};
 ghost use Rattle.rules.specs.Model.{is_peer, key_for};
-ghost use Rattle.areas.specs.declared.Lookup.TheVariants.{Found};
 ghost use Rattle.areas.specs.Counted.{place_in};
 ghost use Rattle.session.specs.Areas.{table_area};
 
-use areas::Lookup;
 use changes::Replied;
 use format::{causes, kinds};
 use frame::header::{Header, Unserved};
@@ -32,7 +30,7 @@ struct TakenAddresses {
 
 // A deletion of the live session at the place p.
 fn delete(t: &mut [u8], k: Known, msg: &[u8], p: usize, out: &mut [u8]) -> Replied
-    requires { Asked t.old k.share.peer msg.now out.old × Live t.old k.share.peer msg.now × (kind_of msg.now ≡ deletion) × (place_in (table_area (view_settings t.old).limit) (key_for k.share.peer (header_seid msg.now)) t.old ≡ Found p) × (settings_of k.u ≡ view_settings t.old) }
+    requires { Asked t.old k.share.peer msg.now out.old × Live t.old k.share.peer msg.now × (kind_of msg.now ≡ deletion) × (place_in (table_area (view_settings t.old).limit) (key_for k.share.peer (header_seid msg.now)) t.old ≡ Ok p) × (settings_of k.u ≡ view_settings t.old) }
     ensures { Replies t.old k.share.peer msg.now out.old result.used result.place out.new t.new }
 {
     if let Err(spot) = frame::frame_fault(msg) {
@@ -73,14 +71,14 @@ fn answer(
     let room = k.u.limit as usize;
     let place = session::find(t, room, format::COUNT, k.share.peer as u64, k.seid);
     match place {
-        Lookup::Absent(p) => {
+        Err(p) => {
             let used = changes::refuse(t, k, msg, causes::NO_SESSION, None, out);
             return Replied {
                 used: used,
                 place: 0,
             };
         }
-        Lookup::Found(p) => {
+        Ok(p) => {
             if k.kind == kinds::DELETION {
                 return delete(t, k, msg, p, out);
             }

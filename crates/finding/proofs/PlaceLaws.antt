@@ -1,5 +1,6 @@
 -- The place of the first session for which a test holds: found by a walk, found by the order of peers and SEIDs, and what it says.
 -- Assumes nothing.
+use Rattle.std.specs.Prelude.{Ok, Err}
 use mathlib.Core.Path.{◌≡◌, refl, ap, subst, ◌∙◌}
 use Prim.Native.Nat.{ℕ, zero, suc, ◌+◌, ◌-◌, ◌≤◌, ◌<◌}
 use native.Mathlib.Omega.{arith}
@@ -18,7 +19,6 @@ use Rattle.rules.specs.Model.{Session, Sessions, session_key}
 use Rattle.rules.specs.Stages.{has_key, new_session}
 use Rattle.rules.specs.Restoring.{session_at}
 use Rattle.rules.specs.Finding.{place_from}
-use Rattle.areas.specs.declared.Lookup.TheVariants.{Found, Absent}
 use Rattle.areas.specs.Records.{lookup_from}
 
 -- ---- the walk: what is left gives the same answer
@@ -43,19 +43,19 @@ module _ (p : Session → Bool) (m : Sessions) (i : ℕ) where
 -- ---- by the order of keys
 
 -- a key that was found is that of no session before
-pub key_found : (i n p : ℕ) (m : Sessions) → lookup_from i n (map session_key m) ≡ Found p → place_from i (has_key n) m ≡ some p
+pub key_found : (i n p : ℕ) (m : Sessions) → lookup_from i n (map session_key m) ≡ Ok p → place_from i (has_key n) m ≡ some p
 unfolding lookup_from place_from has_key
 key_found i n p [] e = absurd (let z : ◌≡◌ {A = ℕ} 0 1 = cc in omega arith)
 key_found i n p (x ∷ m) e =
     orders n (session_key x)
-    (λ l. here (eqb (session_key x) n) (subst (λ (b : Bool). pick b (pick (eqb (session_key x) n) (Found i) (Absent i)) (lookup_from (suc i) n (map session_key m)) ≡ Found p) (le-leb n (session_key x) l) e))
+    (λ l. here (eqb (session_key x) n) (subst (λ (b : Bool). pick b (pick (eqb (session_key x) n) (Ok i) (Err i)) (lookup_from (suc i) n (map session_key m)) ≡ Ok p) (le-leb n (session_key x) l) e))
     (λ l.
     let next : suc i ≡ i + 1 = omega arith in
     rw (ne_eqb (session_key x) n (λ s. omega arith))
     (subst (λ (j : ℕ). place_from j (has_key n) m ≡ some p) next
-    (key_found (suc i) n p m (subst (λ (b : Bool). pick b (pick (eqb (session_key x) n) (Found i) (Absent i)) (lookup_from (suc i) n (map session_key m)) ≡ Found p) (lt-leb n (session_key x) l) e))))
+    (key_found (suc i) n p m (subst (λ (b : Bool). pick b (pick (eqb (session_key x) n) (Ok i) (Err i)) (lookup_from (suc i) n (map session_key m)) ≡ Ok p) (lt-leb n (session_key x) l) e))))
   where
-    here : (b : Bool) → pick b (Found i) (Absent i) ≡ Found p → pick b (some i) (place_from (i + 1) (has_key n) m) ≡ some p
+    here : (b : Bool) → pick b (Ok i) (Err i) ≡ Ok p → pick b (some i) (place_from (i + 1) (has_key n) m) ≡ some p
     here true e' = let q : i ≡ p = cc in ap some q
     here false e' = absurd (let z : ◌≡◌ {A = ℕ} 0 1 = cc in omega arith)
 

@@ -1,5 +1,6 @@
 -- The answers on a table, from what the calls inside them say.
 -- Assumes nothing.
+use Rattle.std.specs.Prelude.{Result, Ok, Err}
 use mathlib.Core.Path.{◌≡◌, sym, ap, ◌∙◌}
 use Prim.Native.Nat.{ℕ, ◌+◌, ◌*◌, ◌≤◌, ◌<◌}
 use native.Mathlib.Omega.{arith}
@@ -17,8 +18,6 @@ use Rattle.rules.specs.Model.{key_for}
 use Rattle.rules.specs.Stages.{has_key, session_of}
 use Rattle.rules.specs.Restoring.{session_at}
 use Rattle.rules.specs.Finding.{Finding, finding_of, place_from, session_place, is_holder, holder_place, find_in, count_sessions, find_session, find_holder}
-use Rattle.areas.specs.declared.Lookup.{Lookup}
-use Rattle.areas.specs.declared.Lookup.TheVariants.{Found, Absent}
 use Rattle.areas.specs.declared.Area.{Area}
 use Rattle.areas.specs.Records.{pair_key}
 use Rattle.areas.specs.Counted.{place_in}
@@ -80,7 +79,7 @@ module _ (t : List ℕ) (b : Bool) (e : b ≡ sound t) where
     unfolding find_session
     seid_broken z = told_broken (session_place who seid (view_sessions t)) z
 
-    module _ (z : not b ≡ false) (room : ℕ) (l : room ≡ number (part limit_at 2 t)) (r : Lookup) (q : r ≡ place_in (table_area room) (pair_key who seid) t) where
+    module _ (z : not b ≡ false) (room : ℕ) (l : room ≡ number (part limit_at 2 t)) (r : Result ℕ ℕ) (q : r ≡ place_in (table_area room) (pair_key who seid) t) where
       by_key : r ≡ place_in (table_area room) key t
       unfolding key_for
       by_key = q
@@ -91,19 +90,19 @@ module _ (t : List ℕ) (b : Bool) (e : b ≡ sound t) where
       k : Encoded t (view_settings t) (view_sessions t)
       k = sound_encoded t (is_sound_lem z)
 
-      there : (u : Lookup) → r ≡ u → place_in area key (encode (view_settings t) (view_sessions t)) ≡ u
+      there : (u : Result ℕ ℕ) → r ≡ u → place_in area key (encode (view_settings t) (view_sessions t)) ≡ u
       there u f = ap (place_in area key) (sym k.whole) ∙ ap (λ (n : ℕ). place_in (table_area n) key t) (limit_read t ∙ sym l) ∙ sym by_key ∙ f
 
-      pub seid_told : (p : ℕ) → r ≡ Found p → finding_of (some p) ≡ find_session t who seid
+      pub seid_told : (p : ℕ) → r ≡ Ok p → finding_of (some p) ≡ find_session t who seid
       unfolding find_session session_place
       seid_told p f =
-          sym (ap finding_of (key_found 0 key p (view_sessions t) (sym (session_place_lem (view_settings t) k.settings (view_sessions t) k.sessions key) ∙ there (Found p) f)))
+          sym (ap finding_of (key_found 0 key p (view_sessions t) (sym (session_place_lem (view_settings t) k.settings (view_sessions t) k.sessions key) ∙ there (Ok p) f)))
           ∙ told (session_place who seid (view_sessions t)) z
 
-      pub seid_none : (p : ℕ) → r ≡ Absent p → finding_of none ≡ find_session t who seid
+      pub seid_none : (p : ℕ) → r ≡ Err p → finding_of none ≡ find_session t who seid
       unfolding find_session session_place
       seid_none p f =
-          sym (ap finding_of (place_none 0 (has_key key) (view_sessions t) (unfold session_of in session_absent (view_settings t) k.settings (view_sessions t) k.sessions key p (there (Absent p) f))))
+          sym (ap finding_of (place_none 0 (has_key key) (view_sessions t) (unfold session_of in session_absent (view_settings t) k.settings (view_sessions t) k.sessions key p (there (Err p) f))))
           ∙ told (session_place who seid (view_sessions t)) z
 
   module _ (teid : ℕ) where

@@ -116,8 +116,8 @@ pub fn find_session(t: &[u8], peer: u32, seid: u64) -> Result<usize, Untold>
     }
     let room = octets::read(t, format::LIMIT, 2) as usize;
     match session::find(t, room, format::COUNT, peer as u64, seid) {
-        areas::Lookup::Found(place) => Ok(place),
-        areas::Lookup::Absent(place) => Err(Untold::NotFound),
+        Ok(place) => Ok(place),
+        Err(_) => Err(Untold::NotFound),
     }
 }
 

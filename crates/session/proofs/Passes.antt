@@ -1,5 +1,6 @@
 -- What a pass over the rows of one type makes of a slot that holds a session: the session with those records taken out, put in or changed.
 -- Assumes nothing.
+use Rattle.std.specs.Prelude.{Result, Ok, Err}
 use mathlib.Core.Path.{◌≡◌, refl, sym, ap, ◌∙◌, subst}
 use mathlib.Core.Bool.{Bool, true, false, not, ◌&&◌, ◌||◌}
 use mathlib.Core.Option.{none, some}
@@ -20,8 +21,6 @@ use Rattle.rules.specs.Apply.{made_pdr, made_endpoint, or_old, changed_pdr, upda
 use Rattle.rules.specs.Types as ie
 use Rattle.plan.specs.Words as its
 use Rattle.areas.specs.Records.{lookup}
-use Rattle.areas.specs.declared.Lookup.{Lookup}
-use Rattle.areas.specs.declared.Lookup.TheVariants.{Found, Absent}
 use Rattle.areas.proofs.Places.{other_than, found_within, found_record, absent_record}
 use Rattle.areas.specs.Counted.{area_in, replaced_in, at_place, with_record, without_record, cleared_in}
 use Rattle.areas.proofs.Held.{place_held, record_held, with_passes, with_up, with_held, without_held, cleared_held, changed_held}
@@ -171,7 +170,7 @@ updated_by row n s v e = ap (λ (u : List ℕ). replaced_in area_of_pdrs n u s) 
 one_update : (row : List ℕ) {x : Session} {s : List ℕ} → Slot x s → Slot (set_pdrs x (map (changed_pdr (row_change row)) x.pdrs)) (updated_pdr row s)
 unfolding updated_pdr
 one_update row {x} {s} h =
-    subst (λ (q : Lookup). Slot (set_pdrs x (map (changed_pdr (row_change row)) x.pdrs)) (at_place q (λ p. updated_at row p s) (λ p. s)))
+    subst (λ (q : Result ℕ ℕ). Slot (set_pdrs x (map (changed_pdr (row_change row)) x.pdrs)) (at_place q (λ p. updated_at row p s) (λ p. s)))
     (sym (place_held pdr_octets pdr_id area_of_pdrs pdr_fits pdr_good k (word its.pdr_id row))) (go (lookup (word its.pdr_id row) (map pdr_id x.pdrs)) refl)
   where
     k : HeldPdrs (pdr_pre x.peer x.seid x.pdrs x.endpoints x.csids) (pdr_mid x.peer x.seid x.pdrs x.endpoints x.csids) (pdr_post x.peer x.seid x.pdrs x.endpoints x.csids) x.pdrs s
@@ -180,8 +179,8 @@ one_update row {x} {s} h =
     d : Pdr
     d = view_pdr []
 
-    go : (q : Lookup) → lookup (word its.pdr_id row) (map pdr_id x.pdrs) ≡ q → Slot (set_pdrs x (map (changed_pdr (row_change row)) x.pdrs)) (at_place q (λ p. updated_at row p s) (λ p. s))
-    go (Found n) e =
+    go : (q : Result ℕ ℕ) → lookup (word its.pdr_id row) (map pdr_id x.pdrs) ≡ q → Slot (set_pdrs x (map (changed_pdr (row_change row)) x.pdrs)) (at_place q (λ p. updated_at row p s) (λ p. s))
+    go (Ok n) e =
         let r : Pdr = get_or x.pdrs n d in
         let own : T (eqb (pdr_id r) (word its.pdr_id row)) = find_some (λ p. eqb (pdr_id p) (word its.pdr_id row)) x.pdrs r (found_record pdr_id (word its.pdr_id row) n x.pdrs d e) in
         let new : updated_record row (part (n * pdr_width) pdr_width (area_in area_of_pdrs s)) ≡ pdr_octets (changed_pdr (row_change row) r)
@@ -191,7 +190,7 @@ one_update row {x} {s} h =
         (with_pdrs h
         (changed_held pdr_octets pdr_id area_of_pdrs pdr_fits pdr_good k d (word its.pdr_id row) n (changed_pdr (row_change row)) (update_other row)
         (λ r fits. subst (λ (i : ℕ). T (ltb i 65536)) (sym (update_id row r)) fits) (update_id row) e))
-    go (Absent n) e =
+    go (Err n) e =
         subst (λ (ps : List Pdr). Slot (set_pdrs x ps) s)
         (sym (update_none row x.pdrs (absent_record pdr_id (word its.pdr_id row) n x.pdrs h.pdrs_up e))) h
 

@@ -1,6 +1,7 @@
 -- A table that encodes settings and sessions holds the sessions in its area: a session is found there, read, put in, replaced and taken out as
 -- the rules say.
 -- Assumes nothing.
+use Rattle.std.specs.Prelude.{Result, Ok, Err}
 use mathlib.Core.Path.{◌≡◌, refl, sym, ap, ◌∙◌}
 use mathlib.Core.Option.{none, some}
 use mathlib.Core.List.{List, [], ◌∷◌, ◌++◌, append-nil, map}
@@ -23,8 +24,6 @@ use Rattle.laws.proofs.LayoutLaws.{length_session, seid_fits}
 use Rattle.laws.proofs.TableLaws.{length_settings, limit_fits}
 use Rattle.laws.proofs.PeerLaws.{all_sessions}
 use Rattle.areas.specs.Records.{key_of, lookup}
-use Rattle.areas.specs.declared.Lookup.{Lookup}
-use Rattle.areas.specs.declared.Lookup.TheVariants.{Found, Absent}
 use Rattle.areas.proofs.Places.{other_than, found_within, found_record, absent_record}
 use Rattle.areas.specs.Counted.{count_in, area_in, place_in, at_place, removed_in, with_record, without_record}
 use Rattle.areas.proofs.Held.{Held, count_held, place_held, record_held, with_held, without_held}
@@ -77,18 +76,18 @@ module _ (s : Settings) (hs : T (settings_allowed s)) where
     session_place_lem n = place_held session_octets session_key (table_area s.limit) (session_allowed s) good held n
 
     -- a session found is the rules' session, and its slot its octets
-    pub session_found : (n p : ℕ) (d : Session) → place_in (table_area s.limit) n (encode s m) ≡ Found p → (p < s.limit) × (session_of n m ≡ some (get_or m p d))
+    pub session_found : (n p : ℕ) (d : Session) → place_in (table_area s.limit) n (encode s m) ≡ Ok p → (p < s.limit) × (session_of n m ≡ some (get_or m p d))
     unfolding session_of has_key
     session_found n p d e =
         let f = sym (session_place_lem n) ∙ e in
         let l = found_within session_key n p m f in
         (omega (arith, few, l), found_record session_key n p m d f)
 
-    pub session_absent : (n p : ℕ) → place_in (table_area s.limit) n (encode s m) ≡ Absent p → session_of n m ≡ none
+    pub session_absent : (n p : ℕ) → place_in (table_area s.limit) n (encode s m) ≡ Err p → session_of n m ≡ none
     unfolding session_of has_key
     session_absent n p e = absent_record session_key n p m up (sym (session_place_lem n) ∙ e)
 
-    pub session_loaded : (n p : ℕ) (d : Session) → place_in (table_area s.limit) n (encode s m) ≡ Found p
+    pub session_loaded : (n p : ℕ) (d : Session) → place_in (table_area s.limit) n (encode s m) ≡ Ok p
         → part (p * session_width) session_width (area_in (table_area s.limit) (encode s m)) ≡ session_octets (get_or m p d)
     session_loaded n p d e =
         record_held session_octets session_key (table_area s.limit) (session_allowed s) good held d p
@@ -111,12 +110,12 @@ module _ (s : Settings) (hs : T (settings_allowed s)) where
     session_removed n = (without_held session_octets session_key (table_area s.limit) (session_allowed s) good held n).octets ∙ sym (grouped (keep (other_than session_key n) m))
 
     -- the same by the place where its key was found
-    pub session_taken : (n p : ℕ) → place_in (table_area s.limit) n (encode s m) ≡ Found p → removed_in (table_area s.limit) p (encode s m) ≡ encode s (remove_session n m)
+    pub session_taken : (n p : ℕ) → place_in (table_area s.limit) n (encode s m) ≡ Ok p → removed_in (table_area s.limit) p (encode s m) ≡ encode s (remove_session n m)
     unfolding without_record
-    session_taken n p e = sym (ap (λ (q : Lookup). at_place q (λ k. removed_in (table_area s.limit) k (encode s m)) (λ k. encode s m)) e) ∙ session_removed n
+    session_taken n p e = sym (ap (λ (q : Result ℕ ℕ). at_place q (λ k. removed_in (table_area s.limit) k (encode s m)) (λ k. encode s m)) e) ∙ session_removed n
 
     -- where a session that is live stands, one stands
-    pub session_within : (n p : ℕ) → place_in (table_area s.limit) n (encode s m) ≡ Found p → p < length m
+    pub session_within : (n p : ℕ) → place_in (table_area s.limit) n (encode s m) ≡ Ok p → p < length m
     session_within n p e = found_within session_key n p m (sym (session_place_lem n) ∙ e)
 
 -- the slot of a new session

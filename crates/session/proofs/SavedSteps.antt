@@ -1,7 +1,7 @@
 -- What the calls inside each function leave, over plain lists.
 -- Assumes nothing.
+use Rattle.std.specs.Prelude.{Result, Ok, Err}
 use mathlib.Core.Path.{◌≡◌, sym, ap, ◌∙◌, subst}
-use mathlib.Core.Bool.{Bool, true, false}
 use mathlib.Core.List.{List}
 use Prim.Native.Nat.{ℕ, ◌+◌, ◌-◌, ◌*◌, ◌≤◌, ◌<◌}
 use native.Mathlib.Omega.{arith}
@@ -14,11 +14,8 @@ use Rattle.rules.specs.Layout.{key_width, session_width}
 use Rattle.areas.specs.declared.Area.{Area}
 use Rattle.areas.specs.Records.{key_of}
 use Rattle.areas.specs.Counted.{Fits, count_in, area_in, place_in, inserted_in, removed_in, replaced_in, with_record}
-use Rattle.areas.specs.declared.Lookup.{Lookup}
-use Rattle.areas.specs.declared.Lookup.TheVariants.{Found, Absent}
 use Rattle.areas.proofs.Steps.{found_room, absent_room}
 use Rattle.session.specs.Areas.{session_area}
-use Rattle.session.specs.Places.{looked_up}
 use Rattle.session.proofs.Steps.{part_part}
 
 module _ (room base : ℕ) where
@@ -38,41 +35,32 @@ module _ (room base : ℕ) where
   pub counted_there : (a : Area) (t : List ℕ) (n : ℕ) → a ≡ sessions → n ≡ count_in a t → n ≡ count_in sessions t
   counted_there a t n e q = q ∙ ap (λ (b : Area). count_in b t) e
 
-  pub found_there : (a : Area) (x : ℕ) (t : List ℕ) (p : Lookup) → a ≡ sessions → p ≡ place_in a x t → p ≡ place_in sessions x t
+  pub found_there : (a : Area) (x : ℕ) (t : List ℕ) (p : Result ℕ ℕ) → a ≡ sessions → p ≡ place_in a x t → p ≡ place_in sessions x t
   found_there a x t p e q = q ∙ ap (λ (b : Area). place_in b x t) e
 
-  pub sought : (x : ℕ) (t : List ℕ) {p q : Lookup} → p ≡ place_in sessions x t → p ≡ q → place_in sessions x t ≡ q
-  sought x t e d = sym e ∙ d
-
   -- a session put where it was looked up
-  module _ {a : Area} (e : a ≡ sessions) (t slot : List ℕ) (live : Bool) (p : ℕ) (at : place_in sessions (key_of key_width slot) t ≡ looked_up live p) where
-    found_at : live ≡ true → place_in sessions (key_of key_width slot) t ≡ Found p
-    found_at l = at ∙ ap (λ (b : Bool). looked_up b p) l
+  module _ {a : Area} (e : a ≡ sessions) (t slot : List ℕ) {q : Result ℕ ℕ} (p : ℕ) (at : place_in sessions (key_of key_width slot) t ≡ q) where
+    pub place_inside : q ≡ Ok p → p < a.room
+    place_inside l = rw e (let f = found_room sessions t (key_of key_width slot) p (at ∙ l) in omega arith)
 
-    absent_at : live ≡ false → place_in sessions (key_of key_width slot) t ≡ Absent p
-    absent_at l = at ∙ ap (λ (b : Bool). looked_up b p) l
+    pub place_next : q ≡ Err p → p ≤ count_in a t
+    place_next l = rw e (absent_room sessions t (key_of key_width slot) p (at ∙ l))
 
-    pub place_inside : live ≡ true → p < a.room
-    place_inside l = rw e (let f = found_room sessions t (key_of key_width slot) p (found_at l) in omega arith)
-
-    pub place_next : live ≡ false → p ≤ count_in a t
-    place_next l = rw e (absent_room sessions t (key_of key_width slot) p (absent_at l))
-
-    pub saved_over : live ≡ true → {done : List ℕ} → done ≡ replaced_in a p slot t → done ≡ with_record sessions slot t
+    pub saved_over : q ≡ Ok p → {done : List ℕ} → done ≡ replaced_in a p slot t → done ≡ with_record sessions slot t
     unfolding with_record
-    saved_over l d = d ∙ rw (e, found_at l)
+    saved_over l d = d ∙ rw (e, at ∙ l)
 
-    pub saved_in : live ≡ false → {n : ℕ} {done : List ℕ} → n ≡ count_in a t → n < a.room → done ≡ inserted_in a p slot t → done ≡ with_record sessions slot t
+    pub saved_in : q ≡ Err p → {n : ℕ} {done : List ℕ} → n ≡ count_in a t → n < a.room → done ≡ inserted_in a p slot t → done ≡ with_record sessions slot t
     unfolding with_record
     saved_in l {n} c h d =
         let less : count_in sessions t < room = rw e at (subst (λ (k : ℕ). k < a.room) c h) in
-        d ∙ rw (e, absent_at l, lt-ltb (count_in sessions t) room less)
+        d ∙ rw (e, at ∙ l, lt-ltb (count_in sessions t) room less)
 
-    pub saved_nowhere : live ≡ false → {n : ℕ} → n ≡ count_in a t → a.room ≤ n → t ≡ with_record sessions slot t
+    pub saved_nowhere : q ≡ Err p → {n : ℕ} → n ≡ count_in a t → a.room ≤ n → t ≡ with_record sessions slot t
     unfolding with_record
     saved_nowhere l {n} c h =
         let full : room ≤ count_in sessions t = rw e at (subst (λ (k : ℕ). a.room ≤ k) c h) in
-        rw (absent_at l, le-ltb (count_in sessions t) room full)
+        rw (at ∙ l, le-ltb (count_in sessions t) room full)
 
   -- what taking the session at a place out asks and leaves
   pub place_counted : (a : Area) (t : List ℕ) (p : ℕ) → a ≡ sessions → p < count_in sessions t → p < count_in a t

@@ -1,5 +1,6 @@
 -- What the calls inside each function leave, over plain lists.
 -- Assumes nothing.
+use Rattle.std.specs.Prelude.{Result, Ok, Err}
 use mathlib.Core.Path.{◌≡◌, refl, sym, ap, ◌∙◌}
 use mathlib.Core.Bool.{Bool, true, false}
 use mathlib.Core.List.{List, [], ◌∷◌}
@@ -22,8 +23,6 @@ use Rattle.rules.specs.Types as ie
 use Rattle.rules.specs.Layout.{pdr_widths, endpoint_widths, pdr_width, endpoint_width, csid_width, pdrs_at, session_width, precedence_at, far_at, far_id_at}
 use Rattle.rules.specs.Limits.{max_pdrs}
 use Rattle.plan.specs.Words as its
-use Rattle.areas.specs.declared.Lookup.{Lookup}
-use Rattle.areas.specs.declared.Lookup.TheVariants.{Found, Absent}
 use Rattle.areas.proofs.LookupLaws.{get_d_slices}
 use Rattle.areas.specs.declared.Area.{Area}
 use Rattle.areas.specs.Counted.{Fits, area_in, place_in, replaced_in, cleared_in, with_record, without_record}
@@ -160,16 +159,16 @@ updated_at_lem row s fresh rec mid new done p end a long less ea lf ee er em en 
     let whole : rec ≡ part (pdrs_at + p * pdr_width) pdr_width s = er ∙ rw e (put_whole (part (pdrs_at + p * pdr_width) pdr_width s) fresh (length_part (pdrs_at + p * pdr_width) pdr_width s (omega arith) ∙ sym lf)) in
     ed ∙ rw (ea, en, em, whole, ← part_part pdrs_at (max_pdrs * pdr_width) (p * pdr_width) pdr_width s (omega arith))
 
-pub update_place : (row s : List ℕ) (a : Area) (place : Lookup) (p : ℕ) → a ≡ area_of_pdrs → place ≡ place_in a (word its.pdr_id row) s → place ≡ Found p → p < 16
+pub update_place : (row s : List ℕ) (a : Area) (place : Result ℕ ℕ) (p : ℕ) → a ≡ area_of_pdrs → place ≡ place_in a (word its.pdr_id row) s → place ≡ Ok p → p < 16
 update_place row s a place p ea e f =
     let h = found_room area_of_pdrs s (word its.pdr_id row) p (rw ea at (sym e ∙ f)) in
     omega (arith, h.0, h.1)
 
-pub update_found : (row s done : List ℕ) (a : Area) (place : Lookup) (p : ℕ) → a ≡ area_of_pdrs → place ≡ place_in a (word its.pdr_id row) s → place ≡ Found p → done ≡ updated_at row p s → done ≡ updated_pdr row s
+pub update_found : (row s done : List ℕ) (a : Area) (place : Result ℕ ℕ) (p : ℕ) → a ≡ area_of_pdrs → place ≡ place_in a (word its.pdr_id row) s → place ≡ Ok p → done ≡ updated_at row p s → done ≡ updated_pdr row s
 unfolding updated_pdr
 update_found row s done a place p ea e f d = d ∙ rw (← ea, ← e, f)
 
-pub update_none : (row s : List ℕ) (a : Area) (place : Lookup) (p : ℕ) → a ≡ area_of_pdrs → place ≡ place_in a (word its.pdr_id row) s → place ≡ Absent p → s ≡ updated_pdr row s
+pub update_none : (row s : List ℕ) (a : Area) (place : Result ℕ ℕ) (p : ℕ) → a ≡ area_of_pdrs → place ≡ place_in a (word its.pdr_id row) s → place ≡ Err p → s ≡ updated_pdr row s
 unfolding updated_pdr
 update_none row s a place p ea e f = rw (← ea, ← e, f)
 

@@ -1,6 +1,5 @@
--- `Areas`: where records stand in a session slot and sessions in a table. `Places`: a session's place as a value. `Records`: the octets that a row
+-- `Areas`: where records stand in a session slot and sessions in a table. `Records`: the octets that a row
 -- gives a record. `Build`: what the rows of a plan make of a session slot.
 pub mod Areas
-pub mod Places
 pub mod Records
 pub mod Build

@@ -12,9 +12,7 @@ ghost use Rattle.session.specs.Build.{without_pdrs, updated_at, updated_pdr, fol
 ghost use Rattle.areas.specs.Records.{key_of, pair_key};
 ghost use Rattle.areas.specs.Counted.{count_in, area_in, place_in, removed_in, with_record};
 ghost use Rattle.session.specs.Areas.{area_of_pdrs, area_of_endpoints, session_area};
-ghost use Rattle.session.specs.Places.{placed};
 
-use areas::Lookup;
 use format::{types, words};
 
 pub mod layout;
@@ -52,7 +50,7 @@ fn update_pdr(slot: &mut [u8], row: &[u64])
     ensures { slot.new ≡ updated_pdr row.now slot.old }
 {
     let place = areas::find(slot, layout::pdrs(), row[words::PDR_ID]);
-    let Lookup::Found(p) = place else {
+    let Ok(p) = place else {
         return;
     };
     update_at(slot, row, p);
@@ -68,8 +66,8 @@ fn put_pdr(slot: &mut [u8], rec: &[u8])
     let id = octets::read(rec, 0, a.key);
     let place = areas::find(slot, a, id);
     match place {
-        Lookup::Found(p) => areas::replace(slot, a, p, rec),
-        Lookup::Absent(p) => {
+        Ok(p) => areas::replace(slot, a, p, rec),
+        Err(p) => {
             if areas::count(slot, a) < a.room {
                 areas::insert(slot, a, p, rec);
             }
@@ -86,8 +84,8 @@ fn put_endpoint(slot: &mut [u8], rec: &[u8])
     let id = octets::read(rec, 0, a.key);
     let place = areas::find(slot, a, id);
     match place {
-        Lookup::Found(p) => areas::replace(slot, a, p, rec),
-        Lookup::Absent(p) => {
+        Ok(p) => areas::replace(slot, a, p, rec),
+        Err(p) => {
             if areas::count(slot, a) < a.room {
                 areas::insert(slot, a, p, rec);
             }
@@ -180,31 +178,12 @@ pub fn count(t: &[u8], room: usize, base: usize) -> usize
     areas::count(t, layout::sessions(room, base))
 }
 
-// Where a session stands among those of an area, or, where it is not live, has its place.
-#[derive(Clone, Copy)]
-pub struct Place {
-    pub live: bool,
-    pub at: usize,
-}
-
-// Where the session of a peer's SEID stands, or has its place.
-pub fn find(t: &[u8], room: usize, base: usize, peer: u64, seid: u64) -> Lookup
+// Where the session of a peer's SEID stands among those of an area, Ok, or, where it is not live, has its place, Err.
+pub fn find(t: &[u8], room: usize, base: usize, peer: u64, seid: u64) -> Result<usize, usize>
     requires { base + 2 + room * session_width ≤ length t.now }
     ensures { result ≡ place_in (session_area room base) (pair_key peer seid) t.now }
 {
     areas::find_pair(t, layout::sessions(room, base), peer, seid)
-}
-
-// The same as a value that can be handed on.
-pub fn seek(t: &[u8], room: usize, base: usize, peer: u64, seid: u64) -> Place
-    requires { base + 2 + room * session_width ≤ length t.now }
-    ensures { place_in (session_area room base) (pair_key peer seid) t.now ≡ placed result }
-{
-    let found = find(t, room, base, peer, seid);
-    match found {
-        Lookup::Found(p) => return Place { live: true, at: p },
-        Lookup::Absent(p) => return Place { live: false, at: p },
-    }
 }
 
 // Copies the slot at place p.
@@ -229,17 +208,18 @@ pub fn fresh(slot: &mut [u8], peer: u64, seid: u64)
 
 // Makes the slot that of its peer and SEID, whose place was looked up: over the one that is there, or put in where there is room. As
 // areas::put_record, written out for slots: where their width is known, all that come after move at once.
-pub fn save(t: &mut [u8], room: usize, base: usize, place: Place, slot: &[u8])
-    requires { (base + 2 + room * session_width ≤ length t.old) × (length slot.now ≡ session_width) × (place_in (session_area room base) (key_of key_width slot.now) t.old ≡ placed place) }
+pub fn save(t: &mut [u8], room: usize, base: usize, place: Result<usize, usize>, slot: &[u8])
+    requires { (base + 2 + room * session_width ≤ length t.old) × (length slot.now ≡ session_width) × (place_in (session_area room base) (key_of key_width slot.now) t.old ≡ place) }
     ensures { t.new ≡ with_record (session_area room base) slot.now t.old }
 {
     let a = layout::sessions(room, base);
-    if place.live {
-        areas::replace(t, a, place.at, slot);
-        return;
-    }
-    if areas::count(t, a) < a.room {
-        areas::insert(t, a, place.at, slot);
+    match place {
+        Ok(p) => areas::replace(t, a, p, slot),
+        Err(p) => {
+            if areas::count(t, a) < a.room {
+                areas::insert(t, a, p, slot);
+            }
+        }
     }
 }
 

@@ -1,4 +1,5 @@
 -- The sessions that go, one after the other. Assumes nothing.
+use Rattle.std.specs.Prelude.{Ok}
 use mathlib.Core.Path.{◌≡◌, refl, sym, ap, ap₂, ◌∙◌, subst}
 use Prim.Native.Nat.{ℕ, zero, suc, ◌+◌, ◌-◌, ◌*◌, ◌≤◌, ◌<◌}
 use native.Mathlib.Nat.{le_refl}
@@ -28,7 +29,6 @@ use Rattle.laws.proofs.PeerLaws.{all_sessions}
 use Rattle.laws.proofs.KeptRules.{session_kept, sessions_kept, table_kept}
 use Rattle.invariants.proofs.After.{keep_allowed, remove_allowed}
 use Rattle.areas.specs.Records.{lookup_from, lookup}
-use Rattle.areas.specs.declared.Lookup.TheVariants.{Found}
 use Rattle.areas.proofs.Places.{remove_at, remove_found}
 use Rattle.areas.specs.Counted.{count_in, place_in, removed_in, area_in}
 use Rattle.session.specs.Areas.{table_area}
@@ -74,13 +74,13 @@ above k [] p up l = absurd (omega arith)
 above k (y ∷ ys) zero up l = ascending_head k y ys up
 above k (y ∷ ys) (suc p) up l = let a = ascending_head k y ys up in let b = above y ys p (ascending_tail k (y ∷ ys) up) (omega arith) in omega arith
 
-own_place : (i : ℕ) (ks : List ℕ) (p : ℕ) → T (ascending ks) → p < length ks → lookup_from i (get_or ks p 0) ks ≡ Found (i + p)
+own_place : (i : ℕ) (ks : List ℕ) (p : ℕ) → T (ascending ks) → p < length ks → lookup_from i (get_or ks p 0) ks ≡ Ok (i + p)
 unfolding lookup_from
 own_place i [] p up l = absurd (omega arith)
-own_place i (k ∷ ks) zero up l = let e : i ≡ i + 0 = omega arith in rw (le-leb k k (le_refl k), eq-eqb k k refl) (ap (λ (n : ℕ). Found n) e)
+own_place i (k ∷ ks) zero up l = let e : i ≡ i + 0 = omega arith in rw (le-leb k k (le_refl k), eq-eqb k k refl) (ap (λ (n : ℕ). Ok n) e)
 own_place i (k ∷ ks) (suc p) up l =
     let e : suc i + p ≡ i + suc p = omega arith in
-    rw (lt-leb (get_or ks p 0) k (above k ks p up (omega arith))) (own_place (suc i) ks p (ascending_tail k ks up) (omega arith) ∙ ap (λ (n : ℕ). Found n) e)
+    rw (lt-leb (get_or ks p 0) k (above k ks p up (omega arith))) (own_place (suc i) ks p (ascending_tail k ks up) (omega arith) ∙ ap (λ (n : ℕ). Ok n) e)
 
 keys_at : (m : Sessions) (p : ℕ) (d : Session) → p < length m → get_or (map session_key m) p 0 ≡ session_key (get_or m p d)
 keys_at [] p d l = absurd (omega arith)
@@ -92,9 +92,9 @@ map_long_lem [] = refl
 map_long_lem (x ∷ m) = ap suc (map_long_lem m)
 
 -- so the key of the session at a place is found there, and taking it out by its key takes out the one at the place
-own_found : (m : Sessions) (p : ℕ) (d : Session) → T (ascending (map session_key m)) → p < length m → lookup (session_key (get_or m p d)) (map session_key m) ≡ Found p
+own_found : (m : Sessions) (p : ℕ) (d : Session) → T (ascending (map session_key m)) → p < length m → lookup (session_key (get_or m p d)) (map session_key m) ≡ Ok p
 own_found m p d up l =
-    ap (λ (k : ℕ). lookup_from 0 k (map session_key m)) (sym (keys_at m p d l)) ∙ own_place 0 (map session_key m) p up (let e = map_long_lem m in omega arith) ∙ ap (λ (k : ℕ). Found k) (let z : 0 + p ≡ p = omega arith in z)
+    ap (λ (k : ℕ). lookup_from 0 k (map session_key m)) (sym (keys_at m p d l)) ∙ own_place 0 (map session_key m) p up (let e = map_long_lem m in omega arith) ∙ ap (λ (k : ℕ). Ok k) (let z : 0 + p ≡ p = omega arith in z)
 
 remove_place : (m : Sessions) (p : ℕ) (d : Session) → T (ascending (map session_key m)) → p < length m → remove_session (session_key (get_or m p d)) m ≡ remove_at p m
 unfolding remove_session other_session has_key
@@ -146,7 +146,7 @@ module _ {s : Settings} {m : Sessions} {t : List ℕ} (h : Encodes s m t) (p : �
       gone : remove_session (session_key x) m ≡ remove_at p m
       gone = remove_place m p (new_session 0 0) up less
 
-      there : place_in (table_area s.limit) (session_key x) (encode s m) ≡ Found p
+      there : place_in (table_area s.limit) (session_key x) (encode s m) ≡ Ok p
       there = session_place_lem s h.settings m h.sessions (session_key x) ∙ own_found m p (new_session 0 0) up less
 
       go : (b : Bool) → Encodes s (pick b (remove_at p m) m) (pick b (removed_in (table_area s.limit) p t) t)

@@ -1,4 +1,5 @@
 -- What a caller knows of the session at entry and of the settings gives what stages 4 and 5 ask. Assumes nothing.
+use Rattle.std.specs.Result.{is_ok}
 use mathlib.Core.Path.{◌≡◌, sym, ap, ◌∙◌, subst}
 use mathlib.Core.Bool.{false}
 use mathlib.Core.List.{List}
@@ -86,7 +87,7 @@ pub at_entry : {k : Known} {q : Told} {t taken addresses slot gone plan : List �
     → ShareOf (view_settings t) (view_sessions t) k.share.peer k.share.teids k.share.sessions
     → length addresses ≡ address_words → Means (view_settings t).first_address addresses (held_addresses (view_settings t) (view_sessions t))
     → k.addresses ≡ free_address_count (view_settings t) (view_sessions t)
-    → (k.kind ≡ establishment → q.live ≡ is_live (key_for k.share.peer q.seid) (view_sessions t))
+    → (k.kind ≡ establishment → is_ok q.place ≡ is_live (key_for k.share.peer q.seid) (view_sessions t))
     → AtEntry k q t taken addresses slot gone plan
 at_entry {k} {q} {t} {taken} {addresses} {slot} {gone} {plan} same h place rows removed words means count words_address means_address count_a known =
     let settings = (table_kept t h).settings in

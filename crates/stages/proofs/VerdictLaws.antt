@@ -1,4 +1,5 @@
--- The verdict of stages 4 to 6, one cause after the other, from what the code has found. Assumes nothing.
+-- The verdict of stages 4 to 6, one cause Rattle.std.specs.Result.{is_ok}
+use after the other, from what the code has found. Assumes nothing.
 use mathlib.Core.Path.{◌≡◌, refl, sym, ap, ◌∙◌}
 use mathlib.Core.Bool.{Bool, true, false, ◌&&◌, ◌||◌}
 use mathlib.Core.List.{List, [], ◌∷◌}
@@ -76,7 +77,7 @@ module _ {k : Known} {q : Told} {t taken addresses slot gone plan : List ℕ} (k
   seid = q.seid
 
   abbrev live : Bool
-  live = q.live
+  live = is_ok q.place
 
   abbrev n : ℕ
   n = q.rows

@@ -1,4 +1,5 @@
--- Cause 73 with tests in place of the lists of held TEIDs and addresses, and what is known of table, maps and slot before stages 4 and 5. Assumes nothing.
+-- Cause Rattle.std.specs.Result.{is_ok}
+use 73 with tests in place of the lists of held TEIDs and addresses, and what is known of table, maps and slot before stages 4 and 5. Assumes nothing.
 use Rattle.std.specs.Prelude.{ℕ, ◌+◌, ◌-◌, ◌*◌, ◌≤◌, ◌<◌, ◌≡◌, Bool, false, not, ◌||◌, List, ltb, length, get_or}
 use Rattle.octets.specs.Choice.{one_of, pick}
 use Rattle.octets.specs.Lists.{member, any, all_pairs}
@@ -58,4 +59,4 @@ pub record AtEntry (k : Known) (q : Told) (t taken addresses slot gone plan : Li
   pub wide_addresses : (settings_of k.u).address_count ≤ 64 * length addresses
   pub marks_addresses : (i : ℕ) → i < (settings_of k.u).address_count → marked addresses i ≡ member ((settings_of k.u).first_address + i) (held_addresses (settings_of k.u) (view_sessions t))
   pub count_addresses : k.addresses ≡ free_address_count (settings_of k.u) (view_sessions t)
-  pub known : k.kind ≡ establishment → q.live ≡ is_live (key_for k.share.peer q.seid) (view_sessions t)
+  pub known : k.kind ≡ establishment → is_ok q.place ≡ is_live (key_for k.share.peer q.seid) (view_sessions t)

@@ -38,13 +38,12 @@ pub struct Known {
     pub seid: u64,
 }
 
-// What reading it added: the SEID of its F-SEID, which counts for an establishment; whether its session is live, and where that stands in the table
-// or has its place; how many rows its plan has, whether it is a restoration, and whether element 129 was met.
+// What reading it added: the SEID of its F-SEID, which counts for an establishment; where its session stands in the table, Ok, or, where it is not
+// live, has its place, Err; how many rows its plan has, whether it is a restoration, and whether element 129 was met.
 #[derive(Clone, Copy)]
 pub struct Told {
     pub seid: u64,
-    pub live: bool,
-    pub place: usize,
+    pub place: Result<usize, usize>,
     pub rows: usize,
     pub restoring: bool,
     pub noted: bool,
@@ -182,7 +181,7 @@ pub fn judge(
     ensures { result ≡ (judge k.kind (settings_of k.u) k.share.peer (view_sessions t.now) (view_session slot.now) (request_in q.seid q.restoring q.noted (rows_of q.rows plan.now))).cause }
 {
     let rows = plan::rows(plan, q.rows);
-    if already_live(k.kind, q.live) {
+    if already_live(k.kind, q.place.is_ok()) {
         return causes::REJECTED;
     }
     if plan::invalid_allocation(rows, q.restoring) {

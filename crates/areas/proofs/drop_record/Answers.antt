@@ -15,7 +15,7 @@ returns-in_default c = search take_none
 pub remove-requires : goal.remove-requires
 remove-requires c =
     let s = c in
-    let f = found_room c.args.a c.args.s.now c.args.x c.in-Found.p (sym c.find-place.ensures ∙ c.in-Found.is) in
+    let f = found_room c.args.a c.args.s.now c.args.x c.in-Ok.p (sym c.find-place.ensures ∙ c.in-Ok.is) in
     (search rules, f.0, f.1)
 
 -- src/lib.rt:99:1

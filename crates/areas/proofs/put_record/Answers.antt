@@ -11,7 +11,7 @@ use Rattle.areas.proofs.put_record.Goals as goal
 pub replace-requires : goal.replace-requires
 replace-requires c =
     let s = c in
-    let f = found_room c.args.a c.args.s.now c.read-x.result c.in-Found.p (sym c.find-place.ensures ∙ c.in-Found.is) in
+    let f = found_room c.args.a c.args.s.now c.read-x.result c.in-Ok.p (sym c.find-place.ensures ∙ c.in-Ok.is) in
     (search rules, omega arith, search rules)
 
 -- src/lib.rt:90:23
@@ -20,13 +20,13 @@ replace-requires c =
 pub insert-requires : goal.insert-requires
 insert-requires c =
     let s = c in
-    let f = absent_room c.args.a c.args.s.now c.read-x.result c.in-Absent.p (sym c.find-place.ensures ∙ c.in-Absent.is) in
+    let f = absent_room c.args.a c.args.s.now c.read-x.result c.in-Err.p (sym c.find-place.ensures ∙ c.in-Err.is) in
     (search rules, f, search rules, search rules)
 
 -- src/lib.rt:82:1
 -- src/lib.rt:82:1
-pub returns-in-Found : goal.returns-in-Found
-returns-in-Found c = search put_over_found
+pub returns-in-Ok : goal.returns-in-Ok
+returns-in-Ok c = search put_over_found
 
 -- src/lib.rt:82:1
 -- src/lib.rt:82:1

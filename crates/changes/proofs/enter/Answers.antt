@@ -4,8 +4,8 @@ use Rattle.changes.proofs.Entering.{seek_room, place_there, fetched_new, fetched
 use borrow.Author.Rules.{rules}
 use Rattle.changes.proofs.enter.Goals as goal
 
-pub seek-place-requires : goal.seek-place-requires
-seek-place-requires c = search seek_room
+pub find-place-requires : goal.find-place-requires
+find-place-requires c = search seek_room
 
 pub returns-then-k-eq-ESTABLISHMENT : goal.returns-then-k-eq-ESTABLISHMENT
 returns-then-k-eq-ESTABLISHMENT c = search fetched_new

@@ -14,23 +14,23 @@ find-place-requires c = search table_room
 pub refuse-used-requires : goal.refuse-used-requires
 refuse-used-requires c = (search rules, search absent_refuses, search rules)
 
-pub returns-in-Absent : goal.returns-in-Absent
-returns-in-Absent c = search absent_replies
+pub returns-in-Err : goal.returns-in-Err
+returns-in-Err c = search absent_replies
 
 pub delete-requires : goal.delete-requires
 delete-requires c =
     let b = c in
     let p = c.requires in
-    let at = named_at c.args.k p.0 p.2 c.if-k-eq-ESTABLISHMENT.false p.3 p.1.settings c.find-place.ensures c.in-Found.is in
+    let at = named_at c.args.k p.0 p.2 c.if-k-eq-ESTABLISHMENT.false p.3 p.1.settings c.find-place.ensures c.in-Ok.is in
     (p.0, at.0, deletes c.args.k p.0 p.2 c.if-k-eq-DELETION.true, at.1, p.1.settings)
 
-pub slice_bounds-change-end-in-Found : goal.slice_bounds-change-end-in-Found
-slice_bounds-change-end-in-Found c = sym c.requires.1.long
+pub slice_bounds-change-end-in-Ok : goal.slice_bounds-change-end-in-Ok
+slice_bounds-change-end-in-Ok c = sym c.requires.1.long
 
-pub slice_bounds-change-end-in-Found-2 : goal.slice_bounds-change-end-in-Found-2
-slice_bounds-change-end-in-Found-2 c = sym c.requires.1.address_long
+pub slice_bounds-change-end-in-Ok-2 : goal.slice_bounds-change-end-in-Ok-2
+slice_bounds-change-end-in-Ok-2 c = sym c.requires.1.address_long
 
-pub change-requires-in-Found : goal.change-requires-in-Found
-change-requires-in-Found c =
+pub change-requires-in-Ok : goal.change-requires-in-Ok
+change-requires-in-Ok c =
     let p = c.requires in
-    (modifies _ p.0 p.2 c.if-k-eq-ESTABLISHMENT.false p.3 p.1.settings c.find-place.ensures c.in-Found.is c.if-k-eq-DELETION.false, p.1)
+    (modifies _ p.0 p.2 c.if-k-eq-ESTABLISHMENT.false p.3 p.1.settings c.find-place.ensures c.in-Ok.is c.if-k-eq-DELETION.false, p.1)

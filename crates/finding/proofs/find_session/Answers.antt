@@ -17,8 +17,8 @@ read-room-requires c =
 pub find-requires : goal.find-requires
 find-requires c = search room_there
 
-pub returns-in-Found : goal.returns-in-Found
-returns-in-Found c = search seid_told
+pub returns-in-Ok : goal.returns-in-Ok
+returns-in-Ok c = search seid_told
 
-pub returns-in-Absent : goal.returns-in-Absent
-returns-in-Absent c = search seid_none
+pub returns-in-Err : goal.returns-in-Err
+returns-in-Err c = search seid_none

@@ -13,7 +13,7 @@ find-place-requires c = (endpoints_fit_lem _ _ c.endpoints-a.ensures c.requires.
 
 pub replace-requires : goal.replace-requires
 replace-requires c =
-    let f = found_room _ c.args.slot.now c.read-id.result c.in-Found.p (sym c.find-place.ensures ∙ c.in-Found.is) in
+    let f = found_room _ c.args.slot.now c.read-id.result c.in-Ok.p (sym c.find-place.ensures ∙ c.in-Ok.is) in
     (endpoints_fit_lem _ _ c.endpoints-a.ensures c.requires.0, omega (arith, f), endpoint_wide _ _ c.endpoints-a.ensures c.requires.1)
 
 pub count-requires : goal.count-requires
@@ -21,20 +21,20 @@ count-requires c = endpoints_fit_lem _ _ c.endpoints-a.ensures c.requires.0
 
 pub insert-requires : goal.insert-requires
 insert-requires c =
-    let f = absent_room _ c.args.slot.now c.read-id.result c.in-Absent.p (sym c.find-place.ensures ∙ c.in-Absent.is) in
+    let f = absent_room _ c.args.slot.now c.read-id.result c.in-Err.p (sym c.find-place.ensures ∙ c.in-Err.is) in
     (endpoints_fit_lem _ _ c.endpoints-a.ensures c.requires.0, f, search rules, endpoint_wide _ _ c.endpoints-a.ensures c.requires.1)
 
-pub returns-in-Found : goal.returns-in-Found
-returns-in-Found c =
+pub returns-in-Ok : goal.returns-in-Ok
+returns-in-Ok c =
     put_there _ _ _ _ _ c.endpoints-a.ensures
-    (put_over_found _ _ _ c.in-Found.p _ c.find-place.ensures _ _ c.read-id.ensures.0 c.in-Found.is c.replace.ensures)
+    (put_over_found _ _ _ c.in-Ok.p _ c.find-place.ensures _ _ c.read-id.ensures.0 c.in-Ok.is c.replace.ensures)
 
 pub returns-then-count-a : goal.returns-then-count-a
 returns-then-count-a c =
     put_there _ _ _ _ _ c.endpoints-a.ensures
-    (put_in_absent _ _ _ c.in-Absent.p _ c.find-place.ensures _ _ _ c.read-id.ensures.0 c.in-Absent.is c.count.ensures c.if-count-a.true c.insert.ensures)
+    (put_in_absent _ _ _ c.in-Err.p _ c.find-place.ensures _ _ _ c.read-id.ensures.0 c.in-Err.is c.count.ensures c.if-count-a.true c.insert.ensures)
 
 pub returns-else-count-a : goal.returns-else-count-a
 returns-else-count-a c =
     put_there _ _ _ _ _ c.endpoints-a.ensures
-    (put_nowhere _ _ _ c.in-Absent.p _ c.find-place.ensures _ _ c.read-id.ensures.0 c.in-Absent.is c.count.ensures c.if-count-a.false)
+    (put_nowhere _ _ _ c.in-Err.p _ c.find-place.ensures _ _ c.read-id.ensures.0 c.in-Err.is c.count.ensures c.if-count-a.false)

@@ -5,8 +5,8 @@ use Rattle.session.proofs.save.Goals as goal
 pub replace-requires : goal.replace-requires
 replace-requires c = (search sessions_fit_lem, search place_inside, search session_wide)
 
-pub returns-then-place : goal.returns-then-place
-returns-then-place c = search saved_over
+pub returns-in-Ok : goal.returns-in-Ok
+returns-in-Ok c = search saved_over
 
 pub count-requires : goal.count-requires
 count-requires c = search sessions_fit_lem
