@@ -1,5 +1,5 @@
--- The verdict of stages 4 to 6, one cause Rattle.std.specs.Result.{is_ok}
-use after the other, from what the code has found. Assumes nothing.
+-- The verdict of stages 4 to 6, one cause after the other, from what the code has found. Assumes nothing.
+use Rattle.std.specs.Result.{is_ok}
 use mathlib.Core.Path.{◌≡◌, refl, sym, ap, ◌∙◌}
 use mathlib.Core.Bool.{Bool, true, false, ◌&&◌, ◌||◌}
 use mathlib.Core.List.{List, [], ◌∷◌}

@@ -1,5 +1,5 @@
--- Cause Rattle.std.specs.Result.{is_ok}
-use 73 with tests in place of the lists of held TEIDs and addresses, and what is known of table, maps and slot before stages 4 and 5. Assumes nothing.
+-- Cause 73 with tests in place of the lists of held TEIDs and addresses, and what is known of table, maps and slot before stages 4 and 5. Assumes nothing.
+use Rattle.std.specs.Result.{is_ok}
 use Rattle.std.specs.Prelude.{ℕ, ◌+◌, ◌-◌, ◌*◌, ◌≤◌, ◌<◌, ◌≡◌, Bool, false, not, ◌||◌, List, ltb, length, get_or}
 use Rattle.octets.specs.Choice.{one_of, pick}
 use Rattle.octets.specs.Lists.{member, any, all_pairs}

@@ -3,6 +3,7 @@
 #![tactic(auto)]
 
 ghost use Rattle.std.specs.Prelude.{◌≡◌, false, ◌&&◌, ◌*◌, ◌+◌, ◌-◌, ◌≤◌, eqb, ltb, length};
+ghost use Rattle.std.specs.Result.{is_ok};
 ghost use Rattle.rules.specs.Message.{establishment};
 ghost use Rattle.rules.specs.Model.{free_address_count, of_peer};
 ghost use Rattle.rules.specs.Layout.{view_session, view_sessions};
@@ -160,10 +161,10 @@ fn no_address(t: &[u8], u: Settings, free: usize, rows: &[Row]) -> bool
 }
 
 // Cause 64: an establishment of a live SEID.
-fn already_live(kind: u64, live: bool) -> bool
-    ensures { result ≡ (eqb kind establishment && live) }
+fn already_live(kind: u64, place: Result<usize, usize>) -> bool
+    ensures { result ≡ (eqb kind establishment && is_ok place) }
 {
-    kind == kinds::ESTABLISHMENT && live
+    kind == kinds::ESTABLISHMENT && place.is_ok()
 }
 
 // The cause of stages 4 to 6, 1 where there is none.
@@ -181,7 +182,7 @@ pub fn judge(
     ensures { result ≡ (judge k.kind (settings_of k.u) k.share.peer (view_sessions t.now) (view_session slot.now) (request_in q.seid q.restoring q.noted (rows_of q.rows plan.now))).cause }
 {
     let rows = plan::rows(plan, q.rows);
-    if already_live(k.kind, q.place.is_ok()) {
+    if already_live(k.kind, q.place) {
         return causes::REJECTED;
     }
     if plan::invalid_allocation(rows, q.restoring) {
