@@ -40,7 +40,7 @@ use Rattle.engine.proofs.Faults.{framed}
 use Rattle.changes.specs.Answers.{Asked, Live, verdict_on, Answers, Replies}
 use Rattle.changes.proofs.VerdictSteps.{read_through}
 use Rattle.engine.proofs.Deleting.{deletion_fine, deletion_empty, no_reports_lem, accepted_empty}
-use Rattle.std.specs.Prelude.{None, Some, Result, Ok, Err}
+use Rattle.std.specs.Prelude.{Result, Ok}
 use Rattle.frame.specs.declared.Spot.{Spot}
 
 -- the table without the session

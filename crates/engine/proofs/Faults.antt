@@ -14,7 +14,7 @@ use Rattle.frame.specs.Framed as frame
 use Rattle.reading.specs.Verdicts.{stopped, got, numbered, outcome, fine}
 use Rattle.changes.specs.Answers.{Live, Answers, Replies, Refusing}
 use Rattle.changes.proofs.Faults.{Faulted, replies_fault, not_framed_refuses, not_read_refuses}
-use Rattle.std.specs.Prelude.{None, Some, Result, Ok, Err}
+use Rattle.std.specs.Prelude.{Some, Result, Ok, Err}
 use Rattle.frame.specs.declared.Spot.{Spot}
 use Rattle.reading.specs.declared.Fault.{Fault}
 
