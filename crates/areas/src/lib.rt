@@ -99,7 +99,9 @@ pub fn clear(s: &mut [u8], a: Area)
     octets::write(s, a.count_at, a.count_width, 0);
 }
 
-// Makes r the record of its key: over the one that is there, or put in where there is room.
+// Makes r the record of its key: over the one that is there, or put in where there is room. It is written out at each call: where the area is
+// known, a record takes a third of the instructions.
+#[inline(always)]
 pub fn put_record(s: &mut [u8], a: Area, r: &[u8])
     requires { Fits a (length s.old) × (length r.now ≡ a.width) × (a.key ≤ 8) }
     ensures { s.new ≡ with_record a r.now s.old }

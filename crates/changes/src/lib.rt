@@ -48,7 +48,7 @@ fn keep(t: &mut [u8], room: usize, q: Told, slot: &mut [u8], gone: &[u64], plan:
     requires { (length t.old ≡ table_length room) × (length slot.old ≡ session_width) × (q.rows * row_width ≤ length plan.now) × (place_in (table_area room) (key_of key_width (built gone.now (rows_of q.rows plan.now) slot.old)) t.old ≡ q.place) }
     ensures { (slot.new ≡ built gone.now (rows_of q.rows plan.now) slot.old) × (t.new ≡ with_record (table_area room) (built gone.now (rows_of q.rows plan.now) slot.old) t.old) }
 {
-    session::build(slot, gone, plan, q.rows);
+    session::build(slot, gone, plan::rows(plan, q.rows));
     session::save(t, room, format::COUNT, q.place, slot);
 }
 

@@ -2,28 +2,25 @@
 -- Assumes nothing.
 use Rattle.std.specs.Prelude.{Result, Ok, Err}
 use mathlib.Core.Path.{◌≡◌, refl, sym, ap, ◌∙◌}
-use mathlib.Core.Bool.{Bool, true, false}
+use mathlib.Core.Bool.{Bool}
 use mathlib.Core.List.{List, [], ◌∷◌}
 use Prim.Native.Nat.{ℕ, ◌+◌, ◌-◌, ◌*◌, ◌%◌, ◌≤◌, ◌<◌}
 use native.Mathlib.Numerals.{add-one}
 use native.Mathlib.Omega.{arith}
 use borrow.Author.Tests.{eq-eqb, ne_eqb}
-use lib.Dec.{eqb}
-use lib.ListN.{length, take, drop, get_or, drop_of_length-le}
+use lib.ListN.{length, take, drop, get_or}
 use lib.Seq.{drop-cons, take-take, drop-drop}
-use Rattle.octets.proofs.Put.{length_part, get_d_part, put_whole, drop_take}
+use Rattle.octets.proofs.Put.{length_part, put_whole, drop_take}
 use Rattle.octets.specs.Choice.{pick}
-use Rattle.octets.specs.Octets.{be, part, put, zeros, slices}
+use Rattle.octets.specs.Octets.{be, part, put, zeros}
 use Rattle.octets.specs.Fields.{width_of, field_octets}
 use Rattle.octets.specs.Rows.{has_tag}
 use Rattle.octets.proofs.FieldLaws.{length_field_octets}
-use Rattle.octets.proofs.Numbers.{length_slices}
-use Rattle.plan.specs.Rows.{word, row_width}
+use Rattle.plan.specs.Rows.{word}
 use Rattle.rules.specs.Types as ie
 use Rattle.rules.specs.Layout.{pdr_widths, endpoint_widths, pdr_width, endpoint_width, csid_width, pdrs_at, session_width, precedence_at, far_at, far_id_at}
 use Rattle.rules.specs.Limits.{max_pdrs}
 use Rattle.plan.specs.Words as its
-use Rattle.areas.proofs.LookupLaws.{get_d_slices}
 use Rattle.areas.specs.declared.Area.{Area}
 use Rattle.areas.specs.Counted.{Fits, area_in, place_in, replaced_in, cleared_in, with_record, without_record}
 use Rattle.areas.proofs.Steps.{found_room}
@@ -216,99 +213,28 @@ pub row_none : (row s : List ℕ) → (word its.tag row ≡ ie.remove_endpoint �
 unfolding row_applied
 row_none row s b c d e f = rw (ne_eqb _ _ b, ne_eqb _ _ c, ne_eqb _ _ d, ne_eqb _ _ e, ne_eqb _ _ f)
 
--- ---- PDRs taken out
+-- ---- PDRs taken out, and a pass over the rows: one of those that are left
 
--- those of the IDs before i are out
-pub record Dropping (ids s₀ s : List ℕ) (i : ℕ) : Type 0 where
-  pub within : i ≤ length ids
-  pub size : length s₀ ≡ session_width
-  pub long : length s ≡ length s₀
-  pub rest : without_pdrs (drop i ids) s ≡ without_pdrs ids s₀
+pub without_more : (ids s : List ℕ) (i : ℕ) → i < length ids → without_pdrs (drop i ids) s ≡ without_pdrs (drop (i + 1) ids) (without_record area_of_pdrs (get_or ids i 0) s)
+unfolding without_pdrs
+without_more ids s i h = rw (drop-cons ids i 0 h, add-one i)
 
-module _ {ids s₀ : List ℕ} where
-  pub dropping_none : length s₀ ≡ session_width → Dropping ids s₀ s₀ 0
-  dropping_none e = record { within = omega arith; size = e; long = refl; rest = refl }
+passed_more : (kind : ℕ) (rows : List (List ℕ)) (s : List ℕ) (i : ℕ) → i < length rows
+    → passed kind (drop i rows) s ≡ passed kind (drop (i + 1) rows) (pick (has_tag kind (get_or rows i [])) (row_applied (get_or rows i []) s) s)
+unfolding passed
+passed_more kind rows s i h = rw (drop-cons rows i [] h, add-one i)
 
-  pub dropping_more : {s : List ℕ} {i : ℕ} → Dropping ids s₀ s i → i < length ids → (a : Area) (s' : List ℕ) → a ≡ area_of_pdrs → length s' ≡ length s → s' ≡ without_record a (get_or ids i 0) s
-      → Dropping ids s₀ s' (i + 1)
-  unfolding without_pdrs
-  dropping_more {s} {i} p less a s' ea l e =
-      record {
-        within = omega arith;
-        size = p.size;
-        long = l ∙ p.long;
-        rest = rw (e, ea, add-one i) (sym (ap (λ (is : List ℕ). without_pdrs is s) (drop-cons ids i 0 less)) ∙ p.rest);
-      }
+module _ (kind : ℕ) (rows : List (List ℕ)) (s : List ℕ) (i : ℕ) (h : i < length rows) where
+  abbrev row : List ℕ
+  row = get_or rows i []
 
-  pub dropping_all : {s : List ℕ} {i : ℕ} → Dropping ids s₀ s i → length ids ≤ i → s ≡ without_pdrs ids s₀
-  unfolding without_pdrs
-  dropping_all {s} {i} p h = ap (λ (is : List ℕ). without_pdrs is s) (sym (drop_of_length-le ids {i = i} h)) ∙ p.rest
+  pub passed_hit : get_or row 0 0 ≡ kind → passed kind (drop i rows) s ≡ passed kind (drop (i + 1) rows) (row_applied row s)
+  unfolding has_tag
+  passed_hit e = passed_more kind rows s i h ∙ ap (λ (b : Bool). passed kind (drop (i + 1) rows) (pick b (row_applied row s) s)) (eq-eqb _ _ e)
 
--- ---- a pass over the rows
-
--- rows before i have been passed
-pub record Passing (kind n : ℕ) (plan s₀ s : List ℕ) (i : ℕ) : Type 0 where
-  pub within : i ≤ n
-  pub rows : n * row_width ≤ length plan
-  pub size : length s₀ ≡ session_width
-  pub long : length s ≡ length s₀
-  pub rest : passed kind (drop i (slices row_width n plan)) s ≡ passed kind (slices row_width n plan) s₀
-
--- the row at i, the rows from it on, and its tag
-abbrev row_at : ℕ → List ℕ → List ℕ
-row_at i plan = part (i * row_width) row_width plan
-
-first_row : (n i : ℕ) (plan : List ℕ) → i < n → drop i (slices row_width n plan) ≡ row_at i plan ∷ drop (i + 1) (slices row_width n plan)
-first_row n i plan h =
-    drop-cons (slices row_width n plan) i [] (rw length_slices h)
-    ∙ (λ j. get_d_slices row_width n i plan h j ∷ drop (sym (add-one i) j) (slices row_width n plan))
-
-tag_of : (i : ℕ) (plan : List ℕ) → word its.tag (row_at i plan) ≡ get_or plan (i * row_width) 0
-tag_of i plan = get_d_part (i * row_width) row_width 0 plan (omega arith) ∙ ap (λ (k : ℕ). get_or plan k 0) (let e : i * row_width + 0 ≡ i * row_width = omega arith in e)
-
--- one row more, by whether it has the tag
-row_passed : (kind : ℕ) (row : List ℕ) (rows : List (List ℕ)) (s : List ℕ) (b : Bool) → eqb (word its.tag row) kind ≡ b → passed kind (row ∷ rows) s ≡ passed kind rows (pick b (row_applied row s) s)
-unfolding passed has_tag
-row_passed kind row rows s b e = ap (λ (b : Bool). passed kind rows (pick b (row_applied row s) s)) e
-
-module _ {kind n : ℕ} {plan s₀ : List ℕ} where
-  pub passing_none : n * row_width ≤ length plan → length s₀ ≡ session_width → Passing kind n plan s₀ s₀ 0
-  passing_none h e = record { within = omega arith; rows = h; size = e; long = refl; rest = refl }
-
-  module _ {s : List ℕ} {i : ℕ} (p : Passing kind n plan s₀ s i) (less : i < n) where
-    pub passing_hit : (end : ℕ) (s' : List ℕ) → end ≡ i * row_width + row_width → get_or plan (i * row_width) 0 ≡ kind → length s' ≡ length s
-        → s' ≡ row_applied (take (end - i * row_width) (drop (i * row_width) plan)) s → Passing kind n plan s₀ s' (i + 1)
-    unfolding passed has_tag
-    passing_hit end s' ee tag l e =
-        let width : end - i * row_width ≡ row_width = omega arith in
-        let here : s' ≡ row_applied (row_at i plan) s = rw width at e in
-        record {
-          within = omega arith;
-          rows = p.rows;
-          size = p.size;
-          long = l ∙ p.long;
-          rest = rw here
-              (sym (ap (λ (l : List (List ℕ)). passed kind l s) (first_row n i plan less)
-              ∙ row_passed kind (row_at i plan) (drop (i + 1) (slices row_width n plan)) s true (eq-eqb _ _ (tag_of i plan ∙ tag))) ∙ p.rest);
-        }
-
-    pub passing_miss : (get_or plan (i * row_width) 0 ≡ kind → ⊥) → Passing kind n plan s₀ s (i + 1)
-    unfolding passed has_tag
-    passing_miss tag =
-        record {
-          within = omega arith;
-          rows = p.rows;
-          size = p.size;
-          long = p.long;
-          rest =
-              sym (ap (λ (l : List (List ℕ)). passed kind l s) (first_row n i plan less)
-              ∙ row_passed kind (row_at i plan) (drop (i + 1) (slices row_width n plan)) s false (ne_eqb _ _ (λ e. tag (sym (tag_of i plan) ∙ e)))) ∙ p.rest;
-        }
-
-  pub passing_all : {s : List ℕ} {i : ℕ} → Passing kind n plan s₀ s i → n ≤ i → s ≡ passed kind (slices row_width n plan) s₀
-  unfolding passed
-  passing_all {s} {i} p h =
-      ap (λ (l : List (List ℕ)). passed kind l s) (sym (drop_of_length-le (slices row_width n plan) {i = i} (rw length_slices h))) ∙ p.rest
+  pub passed_miss : (get_or row 0 0 ≡ kind → ⊥) → passed kind (drop i rows) s ≡ passed kind (drop (i + 1) rows) s
+  unfolding has_tag
+  passed_miss e = passed_more kind rows s i h ∙ ap (λ (b : Bool). passed kind (drop (i + 1) rows) (pick b (row_applied row s) s)) (ne_eqb _ _ e)
 
 -- ---- the passes in turn
 

@@ -13,7 +13,7 @@ ghost use Rattle.areas.specs.Records.{key_of, pair_key};
 ghost use Rattle.areas.specs.Counted.{count_in, area_in, place_in, removed_in, with_record};
 ghost use Rattle.session.specs.Areas.{area_of_pdrs, area_of_endpoints, session_area};
 
-use format::{types, words};
+use format::{Row, types, words};
 
 pub mod layout;
 mod record;
@@ -23,16 +23,14 @@ fn drop_pdrs(slot: &mut [u8], ids: &[u64])
     requires { length slot.old ≡ session_width }
     ensures { slot.new ≡ without_pdrs ids.now slot.old }
 {
-    let mut i = 0;
-    while i < ids.len() {
-        areas::drop_record(slot, layout::pdrs(), ids[i]);
-        i += 1;
+    for id in ids {
+        areas::drop_record(slot, layout::pdrs(), *id);
     }
 }
 
 // An Update PDR's row on the record at place p.
-fn update_at(slot: &mut [u8], row: &[u64], p: usize)
-    requires { (length slot.old ≡ session_width) × (length row.now ≡ row_width) × (p < 16) }
+fn update_at(slot: &mut [u8], row: &Row, p: usize)
+    requires { (length slot.old ≡ session_width) × (p < 16) }
     ensures { slot.new ≡ updated_at row.now p slot.old }
 {
     let at = format::PDRS + p * format::PDR;
@@ -45,8 +43,8 @@ fn update_at(slot: &mut [u8], row: &[u64], p: usize)
 }
 
 // An Update PDR's row: it replaces what it names, and the rest stays.
-fn update_pdr(slot: &mut [u8], row: &[u64])
-    requires { (length slot.old ≡ session_width) × (length row.now ≡ row_width) }
+fn update_pdr(slot: &mut [u8], row: &Row)
+    requires { (length slot.old ≡ session_width) }
     ensures { slot.new ≡ updated_pdr row.now slot.old }
 {
     let place = areas::find(slot, layout::pdrs(), row[words::PDR_ID]);
@@ -56,46 +54,9 @@ fn update_pdr(slot: &mut [u8], row: &[u64])
     update_at(slot, row, p);
 }
 
-// Makes a PDR that of its ID: over the one that is there, or put in where there is room. As areas::put_record, written out for PDRs and below
-// for endpoints: where their width and key are known, a record takes a third of the instructions.
-fn put_pdr(slot: &mut [u8], rec: &[u8])
-    requires { (length slot.old ≡ session_width) × (length rec.now ≡ pdr_width) }
-    ensures { slot.new ≡ with_record area_of_pdrs rec.now slot.old }
-{
-    let a = layout::pdrs();
-    let id = octets::read(rec, 0, a.key);
-    let place = areas::find(slot, a, id);
-    match place {
-        Ok(p) => areas::replace(slot, a, p, rec),
-        Err(p) => {
-            if areas::count(slot, a) < a.room {
-                areas::insert(slot, a, p, rec);
-            }
-        }
-    }
-}
-
-// The same for an endpoint.
-fn put_endpoint(slot: &mut [u8], rec: &[u8])
-    requires { (length slot.old ≡ session_width) × (length rec.now ≡ endpoint_width) }
-    ensures { slot.new ≡ with_record area_of_endpoints rec.now slot.old }
-{
-    let a = layout::endpoints();
-    let id = octets::read(rec, 0, a.key);
-    let place = areas::find(slot, a, id);
-    match place {
-        Ok(p) => areas::replace(slot, a, p, rec),
-        Err(p) => {
-            if areas::count(slot, a) < a.room {
-                areas::insert(slot, a, p, rec);
-            }
-        }
-    }
-}
-
 // An FQ-CSID's row: it sets or removes a node type's, or removes all.
-fn follow_csid(slot: &mut [u8], row: &[u64])
-    requires { (length slot.old ≡ session_width) × (length row.now ≡ row_width) }
+fn follow_csid(slot: &mut [u8], row: &Row)
+    requires { (length slot.old ≡ session_width) }
     ensures { slot.new ≡ followed_csid row.now slot.old }
 {
     let verb = row[words::VERB];
@@ -115,8 +76,8 @@ fn follow_csid(slot: &mut [u8], row: &[u64])
 }
 
 // What one row does to the session.
-fn apply_row(slot: &mut [u8], row: &[u64])
-    requires { (length slot.old ≡ session_width) × (length row.now ≡ row_width) }
+fn apply_row(slot: &mut [u8], row: &Row)
+    requires { (length slot.old ≡ session_width) }
     ensures { slot.new ≡ row_applied row.now slot.old }
 {
     let kind = row[words::TAG];
@@ -128,11 +89,11 @@ fn apply_row(slot: &mut [u8], row: &[u64])
         ),
         types::CREATE_ENDPOINT => {
             let rec = record::endpoint(row);
-            put_endpoint(slot, &rec);
+            areas::put_record(slot, layout::endpoints(), &rec);
         }
         types::CREATE_PDR => {
             let rec = record::pdr(row);
-            put_pdr(slot, &rec);
+            areas::put_record(slot, layout::pdrs(), &rec);
         }
         types::UPDATE_PDR => update_pdr(slot, row),
         types::FQCSID => follow_csid(slot, row),
@@ -141,33 +102,28 @@ fn apply_row(slot: &mut [u8], row: &[u64])
 }
 
 // What the rows of one type do, in request order.
-fn pass(slot: &mut [u8], plan: &[u64], n: usize, kind: u64)
-    requires { (length slot.old ≡ session_width) × (n * row_width ≤ length plan.now) }
-    ensures { slot.new ≡ passed kind (slices row_width n plan.now) slot.old }
+fn pass(slot: &mut [u8], rows: &[Row], kind: u64)
+    requires { length slot.old ≡ session_width }
+    ensures { slot.new ≡ passed kind rows.now slot.old }
 {
-    let mut i = 0;
-    while i < n {
-        let at = i * format::ROW;
-        let end = at + format::ROW;
-        i += 1;
-        if plan[at] != kind {
-            continue;
+    for row in rows {
+        if row[words::TAG] == kind {
+            apply_row(slot, row);
         }
-        apply_row(slot, &plan[at..end]);
     }
 }
 
-// The session that the plan makes: removals first, of the PDRs with the IDs `gone` and of endpoints, then endpoints, PDRs, updates, FQ-CSIDs.
-pub fn build(slot: &mut [u8], gone: &[u64], plan: &[u64], n: usize)
-    requires { (length slot.old ≡ session_width) × (n * row_width ≤ length plan.now) }
-    ensures { slot.new ≡ built gone.now (slices row_width n plan.now) slot.old }
+// The session that the rows make: removals first, of the PDRs with the IDs `gone` and of endpoints, then endpoints, PDRs, updates, FQ-CSIDs.
+pub fn build(slot: &mut [u8], gone: &[u64], rows: &[Row])
+    requires { length slot.old ≡ session_width }
+    ensures { slot.new ≡ built gone.now rows.now slot.old }
 {
     drop_pdrs(slot, gone);
-    pass(slot, plan, n, types::REMOVE_ENDPOINT);
-    pass(slot, plan, n, types::CREATE_ENDPOINT);
-    pass(slot, plan, n, types::CREATE_PDR);
-    pass(slot, plan, n, types::UPDATE_PDR);
-    pass(slot, plan, n, types::FQCSID);
+    pass(slot, rows, types::REMOVE_ENDPOINT);
+    pass(slot, rows, types::CREATE_ENDPOINT);
+    pass(slot, rows, types::CREATE_PDR);
+    pass(slot, rows, types::UPDATE_PDR);
+    pass(slot, rows, types::FQCSID);
 }
 
 // How many sessions there are.

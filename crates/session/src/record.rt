@@ -4,49 +4,39 @@ ghost use Rattle.session.specs.Records.{if_is, address_there, row_match, pdr_rec
 ghost use Rattle.rules.specs.Layout.{pdr_width};
 ghost use Rattle.plan.specs.Rows.{row_width};
 
-use format::words;
+use format::{Row, words};
 
 // v where a word has the value n, else 0.
+#[tactic(auto, unfolding(crate::specs::Records::if_is))]
 fn if_is(there: u64, n: u64, v: u64) -> u64
     ensures { result ≡ if_is there n v }
 {
-    if there == n {
-        return v;
-    }
-    0
+    if there == n { v } else { 0 }
 }
 
 // What a PDR matches on: 0 neither, 1 a local F-TEID, 2 an endpoint.
-fn match_kind(row: &[u64]) -> u64
-    requires { length row.now ≡ row_width }
+#[tactic(auto, unfolding(crate::specs::Records::row_match))]
+fn match_kind(row: &Row) -> u64
     ensures { result ≡ row_match row.now }
 {
-    if row[words::FLAGS] == 0 {
-        if row[words::HAS_ENDPOINT_ID] == 1 {
-            return 2;
-        }
-        return 0;
+    if row[words::FLAGS] != 0 {
+        1
+    } else if row[words::HAS_ENDPOINT_ID] == 1 {
+        2
+    } else {
+        0
     }
-    1
 }
 
 // Whether there is an address, given or chosen.
-fn address_there(row: &[u64]) -> u64
-    requires { length row.now ≡ row_width }
+#[tactic(auto, unfolding(crate::specs::Records::address_there))]
+fn address_there(row: &Row) -> u64
     ensures { result ≡ address_there row.now }
 {
-    let kind = row[words::UE_KIND];
-    if kind == 1 {
-        return 1;
-    }
-    if kind == 2 {
-        return 1;
-    }
-    0
+    u64::from(matches!(row[words::UE_KIND], 1 | 2))
 }
 
-pub fn pdr(row: &[u64]) -> [u8; format::PDR]
-    requires { length row.now ≡ row_width }
+pub fn pdr(row: &Row) -> [u8; format::PDR]
     ensures { result ≡ pdr_record row.now }
 {
     let kind = match_kind(row);
@@ -70,8 +60,7 @@ pub fn pdr(row: &[u64]) -> [u8; format::PDR]
     out
 }
 
-pub fn endpoint(row: &[u64]) -> [u8; format::ENDPOINT]
-    requires { length row.now ≡ row_width }
+pub fn endpoint(row: &Row) -> [u8; format::ENDPOINT]
     ensures { result ≡ endpoint_record row.now }
 {
     let there = address_there(row);
@@ -89,8 +78,7 @@ pub fn endpoint(row: &[u64]) -> [u8; format::ENDPOINT]
 }
 
 // An address of 16 octets, or of 4 and zeros after it.
-pub fn csid(row: &[u64]) -> [u8; format::CSID]
-    requires { length row.now ≡ row_width }
+pub fn csid(row: &Row) -> [u8; format::CSID]
     ensures { result ≡ csid_record row.now }
 {
     let mut out = [0u8; format::CSID];
@@ -121,8 +109,8 @@ pub fn csid(row: &[u64]) -> [u8; format::CSID]
 }
 
 // The precedence that an Update PDR's row names, in a PDR's record.
-pub fn set_precedence(rec: &mut [u8], row: &[u64])
-    requires { (length rec.old ≡ pdr_width) × (length row.now ≡ row_width) }
+pub fn set_precedence(rec: &mut [u8], row: &Row)
+    requires { (length rec.old ≡ pdr_width) }
     ensures { rec.new ≡ record_with_precedence row.now rec.old }
 {
     if row[words::HAS_PRECEDENCE] == 1 {
@@ -131,8 +119,8 @@ pub fn set_precedence(rec: &mut [u8], row: &[u64])
 }
 
 // The FAR ID that it names; one of null length takes it away.
-pub fn set_far(rec: &mut [u8], row: &[u64])
-    requires { (length rec.old ≡ pdr_width) × (length row.now ≡ row_width) }
+pub fn set_far(rec: &mut [u8], row: &Row)
+    requires { (length rec.old ≡ pdr_width) }
     ensures { rec.new ≡ record_with_far row.now rec.old }
 {
     let far = row[words::HAS_FAR_ID];

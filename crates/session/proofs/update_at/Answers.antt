@@ -14,4 +14,4 @@ pub returns : goal.returns
 returns c =
     let s = c in
     updated_at_lem c.args.row.now c.args.slot.now _ c.copy.new.s c.set_precedence.new.rec c.set_far.new.rec c.replace.new.s c.args.p _ c.pdrs.result
-    c.requires.0 c.requires.2 c.pdrs.ensures refl refl c.copy.ensures c.set_precedence.ensures c.set_far.ensures c.replace.ensures
+    c.requires.0 c.requires.1 c.pdrs.ensures refl refl c.copy.ensures c.set_precedence.ensures c.set_far.ensures c.replace.ensures

@@ -9,7 +9,7 @@ pub returns-in_default : goal.returns-in_default
 returns-in_default c = search update_none
 
 pub update_at-requires : goal.update_at-requires
-update_at-requires c = (search rules, search rules, search update_place)
+update_at-requires c = (search rules, search update_place)
 
 pub returns : goal.returns
 returns c = search update_found
