@@ -55,17 +55,8 @@ csids_key a e = rw e (omega arith)
 pub pdr_wide : (a : Area) (n : ℕ) → a ≡ area_of_pdrs → n ≡ pdr_width → n ≡ a.width
 pdr_wide a n e h = rw (e, h)
 
-pub pdr_keyed : (a : Area) (n : ℕ) → a ≡ area_of_pdrs → n ≡ pdr_width → (0 + a.key ≤ n) × (a.key ≤ 8)
-pdr_keyed a n e h = rw (e, h) (omega arith, omega arith)
-
 pub pdr_room_lem : (a : Area) (p : ℕ) → a ≡ area_of_pdrs → p < 16 → p < a.room
 pdr_room_lem a p e h = rw e h
-
-pub endpoint_wide : (a : Area) (n : ℕ) → a ≡ area_of_endpoints → n ≡ endpoint_width → n ≡ a.width
-endpoint_wide a n e h = rw (e, h)
-
-pub endpoint_keyed : (a : Area) (n : ℕ) → a ≡ area_of_endpoints → n ≡ endpoint_width → (0 + a.key ≤ n) × (a.key ≤ 8)
-endpoint_keyed a n e h = rw (e, h) (omega arith, omega arith)
 
 -- a record put into an area is put into its like
 pub put_there : (a b : Area) (r s done : List ℕ) → a ≡ b → done ≡ with_record a r s → done ≡ with_record b r s
@@ -93,18 +84,6 @@ pub endpoint_written : (row s out : List ℕ) (held address : ℕ) → endpoint_
     → out ≡ put 0 (field_octets endpoint_widths (word its.endpoint_id row ∷ word its.teid row ∷ word its.flags row % 4 ∷ held ∷ address ∷ [])) s → out ≡ endpoint_record row
 unfolding endpoint_record endpoint_values
 endpoint_written row s out held address long l m q = written_whole _ _ s out refl long q ∙ rw (m, l)
-
-pub there_given : (row : List ℕ) → word its.ue_kind row ≡ 1 → 1 ≡ address_there row
-unfolding address_there
-there_given row h = sym (rw h)
-
-pub there_chosen : (row : List ℕ) → (word its.ue_kind row ≡ 1 → ⊥) → word its.ue_kind row ≡ 2 → 1 ≡ address_there row
-unfolding address_there
-there_chosen row g h = sym (rw h)
-
-pub there_none : (row : List ℕ) → (word its.ue_kind row ≡ 1 → ⊥) → (word its.ue_kind row ≡ 2 → ⊥) → 0 ≡ address_there row
-unfolding address_there
-there_none row g h = sym (rw (ne_eqb (word its.ue_kind row) 1 g, ne_eqb (word its.ue_kind row) 2 h))
 
 pub csid_long : (row s out : List ℕ) → csid_width ≡ length s → word its.id_type row ≡ 1
     → out ≡ put 0 (field_octets (1 ∷ 1 ∷ 8 ∷ 8 ∷ 0 ∷ 2 ∷ []) (word its.node_type row ∷ word its.id_type row ∷ word its.address_high row ∷ word its.address_low row ∷ 0 ∷ word its.csid row ∷ [])) s → out ≡ csid_record row

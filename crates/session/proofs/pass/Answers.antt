@@ -10,8 +10,8 @@ pub loop-row-preserved : goal.loop-row-preserved
 loop-row-preserved c =
     let l = c.loop-row in
     elim c.if-row-kind.branch [
-      then-row-kind w ↦ rw (w.slot-is, w.apply_row.ensures) (sym (passed_hit c.args.kind c.args.rows.now l.slot l.row-index c.loop-row-test.true w.if-row-kind.true) ∙ l.invariant)
-    | else-row-kind w ↦ rw w.slot-is (sym (passed_miss c.args.kind c.args.rows.now l.slot l.row-index c.loop-row-test.true w.if-row-kind.false) ∙ l.invariant)
+      | then-row-kind w ↦ rw (w.slot-is, w.apply_row.ensures) (sym (passed_hit c.args.kind c.args.rows.now l.slot l.row-index c.loop-row-test.true w.if-row-kind.true) ∙ l.invariant)
+      | else-row-kind w ↦ rw w.slot-is (sym (passed_miss c.args.kind c.args.rows.now l.slot l.row-index c.loop-row-test.true w.if-row-kind.false) ∙ l.invariant)
     ]
 
 pub returns : goal.returns
