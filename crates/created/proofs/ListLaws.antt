@@ -1,14 +1,13 @@
 -- The list of grants as it is filled, and as the groups of one kind are written from it.
 -- Assumes nothing.
 use mathlib.Core.Path.{◌≡◌, refl, sym, ap, ap₂, ◌∙◌}
-use mathlib.Core.Bool.{Bool, true}
+use mathlib.Core.Bool.{true}
 use mathlib.Core.List.{List, [], ◌∷◌, ◌++◌, map, map-append, append_assoc}
-use Prim.Native.Nat.{ℕ, zero, suc, ◌+◌, ◌-◌, ◌≤◌, ◌<◌}
-use native.Mathlib.Nat.{le_of_eq}
+use Prim.Native.Nat.{ℕ, zero, suc, ◌+◌, ◌≤◌, ◌<◌}
 use native.Mathlib.Numerals.{add-one}
 use native.Mathlib.Omega.{arith}
-use lib.ListN.{length, take, drop, get_or, set, length-append, length-drop}
-use lib.Seq.{drop-cons, set_at, append_snoc, take_at, take-suc}
+use lib.ListN.{length, take, drop, get_or, set, length-append, take-append-drop}
+use lib.Seq.{drop-cons, set_at, append_snoc, take_at, take-suc, take_all}
 use Rattle.octets.specs.Lists.{all}
 use Rattle.octets.proofs.FieldLaws.{both}
 use Rattle.rules.specs.Model.{Settings}
@@ -33,9 +32,6 @@ module _ {X : Type 0} where
   pub filled_more : (f : ℕ → X) (i : ℕ) (l : List X) → i < length l → set (filled f i l) i (f i) ≡ filled f (i + 1) l
   unfolding firsts
   filled_more f i l h = rw (add-one, drop-cons l i (f i), set_at (firsts f i) _ _ _ i (length_firsts f i), append_snoc)
-
-  pub length_filled : (f : ℕ → X) (n : ℕ) (l : List X) → n ≤ length l → length (filled f n l) ≡ length l
-  length_filled f n l h = simp (length-append, length_firsts, length-drop) (omega arith)
 
   pub take_filled : (f : ℕ → X) (n : ℕ) (l : List X) → take n (filled f n l) ≡ firsts f n
   take_filled f n l = take_at (firsts f n) (drop n l) n (length_firsts f n)
@@ -64,14 +60,12 @@ groups_append k s (g ∷ gs) ys =
     groups_more k s g (gs ++ ys) ∙ ap (λ (l : List ℕ). groups k s (g ∷ []) ++ l) (groups_append k s gs ys)
     ∙ sym (append_assoc (groups k s (g ∷ [])) (groups k s gs) (groups k s ys)) ∙ ap (λ (l : List ℕ). l ++ groups k s ys) (sym (groups_more k s g gs))
 
-all_last : {X : Type 0} (p : X → Bool) (xs : List X) (x : X) → all p (xs ++ (x ∷ [])) ≡ true → (all p xs ≡ true) × (p x ≡ true)
+-- the IDs of all entries fit
+pub id_at : (es : List Entry) (i : ℕ) → i < length es → all id_fits (map told_of es) ≡ true → id_fits (told_of (get_or es i no_entry)) ≡ true
 unfolding all
-all_last p [] x h = (refl, (both _ _ h).0)
-all_last p (y ∷ xs) x h =
-    let a : (p y ≡ true) × (all p (xs ++ (x ∷ [])) ≡ true) = both _ _ h in
-    let b = all_last p xs x a.1 in
-    let c : p y ≡ true = a.0 in
-    (rw c b.0, b.1)
+id_at [] i h a = absurd (omega arith)
+id_at (e ∷ es) zero h a = (both _ _ a).0
+id_at (e ∷ es) (suc i) h a = id_at es i (omega arith) (both _ _ a).1
 
 module _ (k : Kind) (s : Settings) (es : List Entry) where
   -- what is written once i entries are behind
@@ -94,15 +88,12 @@ module _ (k : Kind) (s : Settings) (es : List Entry) where
   pub wrote_next : (i : ℕ) → i < length es → length (wrote i) + length (writes i) ≡ length (wrote (i + 1))
   wrote_next i h = sym (ap length (wrote_more i h) ∙ length-append (wrote i) (writes i))
 
+  -- all of it, once every entry is behind
+  pub wrote_all : (i : ℕ) → length es ≤ i → wrote i ≡ groups k s (map told_of es)
+  wrote_all i h = rw (take_all i es h)
+
   -- what is written of the first entries fits where all does
-  pub wrote_fits : (d i n : ℕ) → i + d ≡ n → n ≤ length es → length (wrote i) ≤ length (wrote n)
-  wrote_fits zero i n e h = let same : i ≡ n = omega arith in le_of_eq (ap (λ (m : ℕ). length (wrote m)) same)
-  wrote_fits (suc d) i n e h = omega (arith, wrote_next i (omega arith), wrote_fits d (i + 1) n (omega arith) h)
-
-  -- the IDs of all entries fit
-  pub ids_before : (d i n : ℕ) → i + d ≡ n → n ≤ length es → all id_fits (listed n es) ≡ true → all id_fits (listed i es) ≡ true
-  ids_before zero i n e h a = let same : i ≡ n = omega arith in ap (λ (m : ℕ). all id_fits (listed m es)) same ∙ a
-  ids_before (suc d) i n e h a = (all_last id_fits (listed i es) (told_of (get_or es i no_entry)) (sym (ap (all id_fits) (listed_more i (omega arith))) ∙ ids_before d (i + 1) n (omega arith) h a)).0
-
-  pub id_at : (i n : ℕ) → i < n → n ≤ length es → all id_fits (listed n es) ≡ true → id_fits (told_of (get_or es i no_entry)) ≡ true
-  id_at i n l h a = (all_last id_fits (listed i es) (told_of (get_or es i no_entry)) (sym (ap (all id_fits) (listed_more i (omega arith))) ∙ ids_before (n - (i + 1)) (i + 1) n (omega arith) h a)).1
+  pub wrote_fits : (i : ℕ) → length (wrote i) ≤ length (groups k s (map told_of es))
+  wrote_fits i =
+      let e : map told_of es ≡ listed i es ++ map told_of (drop i es) = ap (map told_of) (sym (take-append-drop i es)) ∙ map-append told_of (take i es) (drop i es) in
+      rw (e, groups_append k s (listed i es) (map told_of (drop i es))) (omega (arith, length-append (wrote i) (groups k s (map told_of (drop i es)))))

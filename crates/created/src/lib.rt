@@ -1,20 +1,18 @@
 // Created PDR and Created Traffic Endpoint: the groups that report the TEIDs and the address of a request's CHOOSEs, written from 01's list of
 // grants.
 // The list is made for each request: an array of 24 entries, lent as a slice to be filled and then lent to the writer of the groups.
-// `fill`, `write_groups` and `write_created` are proved by a walk of their steps, by hand; whoever calls `write_created` names no list.
 #![tactic(auto)]
 
-ghost use Rattle.std.specs.Prelude.{◌≡◌, true, [], ◌∷◌, ◌++◌, ◌+◌, ◌≤◌, ◌<◌, T, length};
+ghost use Rattle.std.specs.Prelude.{◌≡◌, true, [], ◌∷◌, ◌++◌, ◌+◌, ◌≤◌, ◌<◌, T, map, length};
 ghost use Rattle.octets.specs.Octets.{be};
 ghost use Rattle.octets.specs.Lists.{all};
 ghost use Rattle.rules.specs.Reply.{element, tunnel_part, address_part, chosen_elements, created};
-ghost use Rattle.plan.specs.Rows.{row_width};
 ghost use Rattle.unit.specs.Meaning.{settings_of};
 ghost use Rattle.writing.specs.Placed.{Placed};
 ghost use Rattle.created.specs.Groups.{kind_in, groups, id_fits};
-ghost use Rattle.created.specs.Entries.{max_grants, granted_tunnel, granted_address, told_of, listed, row_id, entry_at, tolds_at, reports_at, within, filled};
+ghost use Rattle.created.specs.Entries.{max_grants, granted_tunnel, granted_address, told_of, row_id, row_entry, entry_at, tolds_at, reports_at, within, filled};
 
-use format::{types, words};
+use format::{Row, types, words};
 use unit::Settings;
 
 // One entry of the list: a record's kind and ID; the flags of its F-TEID (V4 1, V6 2, CH 4) and the TEID, which it was granted where CH is
@@ -28,6 +26,16 @@ pub struct Grant {
     pub ue: u64,
     pub address: u64,
 }
+
+// What an entry holds before it is filled.
+const NONE: Grant = Grant {
+    kind: 0,
+    id: 0,
+    flags: 0,
+    teid: 0,
+    ue: 0,
+    address: 0,
+};
 
 // The F-TEID that was granted, with the unit's addresses; nothing where none was.
 fn write_tunnel(u: Settings, g: Grant, out: &mut [u8], at: usize) -> usize
@@ -97,23 +105,22 @@ fn write_grant(u: Settings, kind: u64, g: Grant, out: &mut [u8], at: usize) -> u
 }
 
 // The ID of the row's record.
-fn row_id(row: &[u64]) -> u64
-    requires { length row.now ≡ row_width }
+#[tactic(auto, unfolding(crate::specs::Entries::row_id))]
+fn row_id(row: &Row) -> u64
     ensures { result ≡ row_id row.now }
 {
     if row[words::TAG] == types::CREATE_PDR {
-        return row[words::PDR_ID];
+        row[words::PDR_ID]
+    } else {
+        row[words::ENDPOINT_ID]
     }
-    row[words::ENDPOINT_ID]
 }
 
-// The entry of the row at the i-th place.
-fn entry_at(plan: &[u64], places: &[usize], i: usize) -> Grant
-    requires { (i < length places.now) × T (within plan.now places.now) }
-    ensures { result ≡ entry_at plan.now places.now i }
+// The entry of a row.
+#[tactic(auto, unfolding(crate::specs::Entries::row_entry))]
+fn entry_of(row: &Row) -> Grant
+    ensures { result ≡ row_entry row.now }
 {
-    let p = places[i];
-    let row = &plan[p..p + format::ROW];
     Grant {
         kind: row[words::TAG],
         id: row_id(row),
@@ -124,35 +131,24 @@ fn entry_at(plan: &[u64], places: &[usize], i: usize) -> Grant
     }
 }
 
-// Fills the first n entries of the list from the rows at the first n places.
-fn fill(grants: &mut [Grant], plan: &[u64], places: &[usize], n: usize)
-    requires { (n ≤ length grants.old) × (n ≤ length places.now) × T (within plan.now places.now) }
-    ensures { grants.new ≡ filled (entry_at plan.now places.now) n grants.old }
+// Fills the list from the rows at places, an entry for each.
+fn fill(grants: &mut [Grant], plan: &[u64], places: &[usize])
+    requires { (length places.now ≤ length grants.old) × T (within plan.now places.now) }
+    ensures { grants.new ≡ filled (entry_at plan.now places.now) (length places.now) grants.old }
 {
-    let mut i = 0;
-    while i < n {
-        grants[i] = entry_at(plan, places, i);
-        i += 1;
+    for (i, place) in places.iter().enumerate() {
+        grants[i] = entry_of(plan::row_at(plan, *place));
     }
 }
 
-// The groups of the grants of one kind among the first n entries, in their order.
-fn write_groups(
-    u: Settings,
-    grants: &[Grant],
-    n: usize,
-    kind: u64,
-    out: &mut [u8],
-    at: usize,
-) -> usize
-    requires { (n ≤ length grants.now) × (all id_fits (listed n grants.now) ≡ true) × (at + length (groups (kind_in kind) (settings_of u) (listed n grants.now)) ≤ length out.old) }
-    ensures { Placed out.old at (groups (kind_in kind) (settings_of u) (listed n grants.now)) result out.new }
+// The groups of the grants of one kind, in their order.
+fn write_groups(u: Settings, grants: &[Grant], kind: u64, out: &mut [u8], at: usize) -> usize
+    requires { (all id_fits (map told_of grants.now) ≡ true) × (at + length (groups (kind_in kind) (settings_of u) (map told_of grants.now)) ≤ length out.old) }
+    ensures { Placed out.old at (groups (kind_in kind) (settings_of u) (map told_of grants.now)) result out.new }
 {
     let mut next = at;
-    let mut i = 0;
-    while i < n {
-        next = write_grant(u, kind, grants[i], out, next);
-        i += 1;
+    for grant in grants {
+        next = write_grant(u, kind, *grant, out, next);
     }
     next
 }
@@ -168,16 +164,9 @@ pub fn write_created(
     requires { (length places.now ≤ max_grants) × T (within plan.now places.now) × (all id_fits (tolds_at plan.now places.now) ≡ true) × (at + length (created (settings_of u) (reports_at plan.now places.now)) ≤ length out.old) }
     ensures { Placed out.old at (created (settings_of u) (reports_at plan.now places.now)) result out.new }
 {
-    let n = places.len();
-    let mut grants = [Grant {
-        kind: 0,
-        id: 0,
-        flags: 0,
-        teid: 0,
-        ue: 0,
-        address: 0,
-    }; format::GRANTS];
-    fill(&mut grants, plan, places, n);
-    let next = write_groups(u, &grants, n, types::CREATE_PDR, out, at);
-    write_groups(u, &grants, n, types::CREATE_ENDPOINT, out, next)
+    let mut list = [NONE; format::GRANTS];
+    fill(&mut list, plan, places);
+    let grants = &list[..places.len()];
+    let next = write_groups(u, grants, types::CREATE_PDR, out, at);
+    write_groups(u, grants, types::CREATE_ENDPOINT, out, next)
 }

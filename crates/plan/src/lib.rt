@@ -2,8 +2,9 @@
 // A rule on one row or on two rows is a function of its own, asked of every row.
 #![tactic(auto)]
 
-ghost use Rattle.std.specs.Prelude.{◌≡◌, false, ◌&&◌, ◌*◌, ◌≤◌, ◌<◌, eqb, length};
+ghost use Rattle.std.specs.Prelude.{◌≡◌, false, ◌&&◌, ◌+◌, ◌*◌, ◌≤◌, ◌<◌, eqb, length};
 ghost use Rattle.std.specs.Simd.{first_chunks};
+ghost use Rattle.octets.specs.Octets.{part};
 ghost use Rattle.octets.specs.Lists.{member, any};
 ghost use Rattle.octets.specs.Rows.{has_tag, column};
 ghost use Rattle.rules.specs.Stages.{invalid_allocation, needed};
@@ -32,6 +33,14 @@ pub fn rows(plan: &[u64], n: usize) -> &[Row]
     ensures { result.now ≡ rows_of n plan.now }
 {
     arrays(plan, n)
+}
+
+// The row that begins at a place, which is counted in words.
+pub fn row_at(plan: &[u64], place: usize) -> &Row
+    requires { place + row_width ≤ length plan.now }
+    ensures { result.now ≡ part place row_width plan.now }
+{
+    &rows(&plan[place..], 1)[0]
 }
 
 // Does a row have this tag, and x at place field?

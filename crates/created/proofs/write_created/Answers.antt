@@ -24,7 +24,6 @@ pub write_groups-next-requires : goal.write_groups-next-requires
 write_groups-next-requires c =
     let g = c.args in
     let f = c.fill in (
-      omega (arith, c.requires.0, f.auto.grants),
       rw (told g.plan.now g.places.now _ f.new.grants f.ensures) c.requires.2,
       omega (arith, both_long (settings_of g.u) g.plan.now g.places.now _ f.new.grants f.ensures, c.requires.3),
     )
@@ -33,7 +32,6 @@ pub write_groups-requires : goal.write_groups-requires
 write_groups-requires c =
     let g = c.args in
     let f = c.fill in (
-      omega (arith, c.requires.0, f.auto.grants),
       rw (told g.plan.now g.places.now _ f.new.grants f.ensures) c.requires.2,
       omega (arith, both_long (settings_of g.u) g.plan.now g.places.now _ f.new.grants f.ensures, c.requires.3, c.write_groups-next.ensures.ends, c.write_groups-next.auto.out),
     )
