@@ -33,9 +33,6 @@ module _ (a : ℕ) where
     pub long : length plan ≡ length plan₀
     pub same : take at plan ++ addressed a left (drop at plan) ≡ addressed a n plan₀
 
-  pub writing_none : {n : ℕ} {plan : List ℕ} → n * row_width ≤ length plan → Writing n plan plan 0 n
-  writing_none h = record { inside = omega arith; long = refl; same = refl }
-
   pub writing_all : {n : ℕ} {plan₀ plan : List ℕ} {at left : ℕ} → Writing n plan₀ plan at left → left ≤ 0 → plan ≡ addressed a n plan₀
   unfolding addressed
   writing_all {plan = plan} {at = at} {left = left} w h = let z : left ≡ 0 = omega arith in sym (take-append-drop at plan) ∙ rw z at w.same
@@ -49,12 +46,6 @@ module _ (a : ℕ) where
 
     abbrev after : List ℕ
     after = drop row_width (drop at plan)
-
-    -- the row that is read next
-    pub writing_row : length (take (at + row_width - at) (drop at plan)) ≡ row_width
-    writing_row =
-        let e : at + row_width - at ≡ row_width = omega arith in
-        rw e (length-take-le row_width (drop at plan) (omega (arith, w.inside, length-drop at plan)))
 
     row_long : length row ≡ row_width
     row_long = length-take-le row_width (drop at plan) (omega (arith, w.inside, length-drop at plan))
@@ -78,10 +69,9 @@ module _ (a : ℕ) where
         one zero g = absurd (omega arith)
         one (suc m) g = let e : suc m - 1 ≡ m = omega arith in rw e (unfold addressed in refl)
 
-    step : (b : Bool) → b ≡ chooses_address (take (at + row_width - at) (drop at plan)) → Writing n plan₀ (pick b (set plan (at + 19) a) plan) (at + row_width) (left - 1)
+    step : (b : Bool) → b ≡ chooses_address row → Writing n plan₀ (pick b (set plan (at + 19) a) plan) (at + row_width) (left - 1)
     step b e =
-        let wide : at + row_width - at ≡ row_width = omega arith in
-        let is = next_is b (e ∙ ap (λ (k : ℕ). chooses_address (take k (drop at plan))) wide) in
+        let is = next_is b e in
         let lw = length_with row in
         let lr = row_long in
         let lp = pre_long in
@@ -103,11 +93,11 @@ module _ (a : ℕ) where
         pick_length true = length-set plan (at + 19) a
         pick_length false = refl
 
-    pub writing_skip : (b : Bool) → b ≡ chooses_address (take (at + row_width - at) (drop at plan)) → b ≡ false → Writing n plan₀ plan (at + row_width) (left - 1)
-    writing_skip b e z = step false (sym z ∙ e)
+    pub writing_skip : false ≡ chooses_address row → Writing n plan₀ plan (at + row_width) (left - 1)
+    writing_skip e = step false e
 
-    pub writing_more : (b : Bool) → b ≡ chooses_address (take (at + row_width - at) (drop at plan)) → b ≡ true → Writing n plan₀ (set plan (at + 19) a) (at + row_width) (left - 1)
-    writing_more b e z = step true (sym z ∙ e)
+    pub writing_more : true ≡ chooses_address row → Writing n plan₀ (set plan (at + 19) a) (at + row_width) (left - 1)
+    writing_more e = step true e
 
   -- ---- what stands in the plan then
 

@@ -8,7 +8,7 @@ use native.Mathlib.Decide.{ℕ_discrete, dec_lt}
 use native.Mathlib.Omega.{arith}
 use borrow.Author.Tests.{eq-eqb, ne_eqb, lt-ltb, le-ltb}
 use lib.Dec.{eqb, ltb}
-use lib.ListN.{length, take, drop, get_or, set, replicate, length-set, length-replicate, get_or-eq_default}
+use lib.ListN.{length, drop, get_or, set, replicate, length-set, length-replicate, get_or-eq_default}
 use lib.Seq.{sets, set_out, get_or-set_same, get_or-set_other}
 use Rattle.octets.specs.Choice.{pick, value_or, map_option}
 use Rattle.octets.specs.Octets.{bit, part}
@@ -110,7 +110,7 @@ module _ (plan ps words : List ℕ) (first size : ℕ) (ts₀ : List ℕ) where
   filling_none = record { inside = omega arith; long = refl; ids = length-replicate {A = ℕ} 256 0; cs = []; knows = knows_none 256; same = refl }
 
   module _ {ts known : List ℕ} {from i : ℕ} (f : Filling plan ps words first size ts₀ ts known from i) where
-    filling_more : {known' : List ℕ} {g : Given} {id : ℕ} → i < length ps → id ≡ value_or 256 (choose_id_in (part (get_or ps i 0) row_width plan))
+    pub filling_more : {known' : List ℕ} {g : Given} {id : ℕ} → i < length ps → id ≡ value_or 256 (choose_id_in (part (get_or ps i 0) row_width plan))
         → Gives first words from size known id g known'
         → Filling plan ps words first size ts₀ (set ts i g.teid) known' g.next (i + 1)
     unfolding choice_at
@@ -135,15 +135,6 @@ module _ (plan ps words : List ℕ) (first size : ℕ) (ts₀ : List ℕ) where
           knows = rw w.knows (knows_after known f.cs free o g.teid f.ids (rw (choice_id_lem row) (id_fits_lem known row f.ids)) f.knows w.teid);
           same = sym (sets_more ts i g.teid left) ∙ ap (λ (xs : List ℕ). sets ts i xs) both ∙ rw (left_more ps i h) at f.same;
         }
-
-    -- a turn as the code slices the row
-    pub filling_turn : {known' : List ℕ} {g : Given} {id : ℕ} → i < length ps
-        → id ≡ value_or 256 (choose_id_in (take (get_or ps i 0 + row_width - get_or ps i 0) (drop (get_or ps i 0) plan)))
-        → Gives first words from size known id g known'
-        → Filling plan ps words first size ts₀ (set ts i g.teid) known' g.next (i + 1)
-    filling_turn h e v =
-        let w : get_or ps i 0 + row_width - get_or ps i 0 ≡ row_width = omega arith in
-        filling_more h (rw w at e) v
 
     pub filling_all : length ps ≤ i → ts ≡ sets ts₀ 0 (teids_at first words size plan ps)
     unfolding grant_from

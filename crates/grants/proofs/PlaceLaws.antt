@@ -6,8 +6,9 @@ use Prim.Native.Nat.{ℕ, zero, suc, ◌+◌, ◌-◌, ◌*◌, ◌≤◌, ◌<�
 use native.Mathlib.Numerals.{add-one}
 use native.Mathlib.Omega.{arith}
 use lib.Dec.{T, leb, le→leb}
-use lib.ListN.{length, take, drop, set, length-set, length-take, length-drop}
-use lib.Seq.{length-take-le, take_all, take_at, take-suc-set, drop-drop}
+use lib.ListN.{length, take, drop, get_or, set, length-set}
+use Rattle.std.proofs.lemmas.List.{drop_all}
+use lib.Seq.{length-take-le, take_all, take-suc-set, drop-drop, drop-cons}
 use Rattle.octets.specs.Choice.{pick}
 use Rattle.octets.specs.Octets.{part, slices}
 use Rattle.octets.specs.Lists.{all}
@@ -82,77 +83,59 @@ reports_within n plan h =
 -- ---- finding them
 
 -- Where the search for places stands: those found and those of the rows that are left are, as far as there is room, those found at first and those of all rows.
-pub record Finding (plan : List ℕ) (n : ℕ) (p : List ℕ → Bool) (places₀ : List ℕ) (k : ℕ) (found-places : List ℕ) (at left found : ℕ) : Type 0 where
-  pub inside : at + left * row_width ≤ length plan
+pub record Finding (rows : List (List ℕ)) (p : List ℕ → Bool) (places₀ : List ℕ) (k : ℕ) (found-places : List ℕ) (i found : ℕ) : Type 0 where
   pub long : length found-places ≡ length places₀
   pub few : found ≤ length places₀
   pub same :
-      take (length places₀) (take found found-places ++ places_by p at (slices row_width left (drop at plan)))
-      ≡ take (length places₀) (take k places₀ ++ places_by p 0 (rows_of n plan))
+      take (length places₀) (take found found-places ++ places_by p (i * row_width) (drop i rows))
+      ≡ take (length places₀) (take k places₀ ++ places_by p 0 rows)
 
 -- what the search leaves
-abbrev pub Found : List ℕ → ℕ → (List ℕ → Bool) → List ℕ → ℕ → List ℕ → ℕ → Type 0
-Found plan n p places₀ k places' r = (r ≤ length places₀) × (take r places' ≡ take (length places₀) (take k places₀ ++ places_by p 0 (rows_of n plan)))
+abbrev pub Found : List (List ℕ) → (List ℕ → Bool) → List ℕ → ℕ → List ℕ → ℕ → Type 0
+Found rows p places₀ k places' r = (r ≤ length places₀) × (take r places' ≡ take (length places₀) (take k places₀ ++ places_by p 0 rows))
 
-module _ {plan : List ℕ} {n : ℕ} {p : List ℕ → Bool} {places₀ : List ℕ} {k : ℕ} where
-  pub finding_none : n * row_width ≤ length plan → k ≤ length places₀ → Finding plan n p places₀ k places₀ 0 n k
-  finding_none h g = record { inside = omega arith; long = refl; few = g; same = refl }
-
-  module _ {ps : List ℕ} {at left found : ℕ} (f : Finding plan n p places₀ k ps at left found) where
-    -- the row that is read next
-    pub finding_row : 0 < left → length (take (at + row_width - at) (drop at plan)) ≡ row_width
-    finding_row h = let i = f.inside in omega (arith, length-take (at + row_width - at) (drop at plan), length-drop at plan)
-
+module _ {rows : List (List ℕ)} {p : List ℕ → Bool} {places₀ : List ℕ} {k : ℕ} where
+  module _ {ps : List ℕ} {i found : ℕ} (f : Finding rows p places₀ k ps i found) where
     abbrev rest : List ℕ
-    rest = places_by p (at + row_width) (slices row_width (left - 1) (drop (at + row_width) plan))
+    rest = places_by p ((i + 1) * row_width) (drop (i + 1) rows)
 
-    next : 0 < left → (b : Bool) → b ≡ p (take (at + row_width - at) (drop at plan)) → places_by p at (slices row_width left (drop at plan)) ≡ pick b (at ∷ rest) rest
-    next h b e =
-        let w : at + row_width - at ≡ row_width = omega arith in
-        places_more p at left plan h ∙ ap (λ (t : Bool). pick t (at ∷ rest) rest) (sym (e ∙ ap (λ (m : ℕ). p (take m (drop at plan))) w))
+    next : i < length rows → places_by p (i * row_width) (drop i rows) ≡ pick (p (get_or rows i [])) (i * row_width ∷ rest) rest
+    unfolding places_by
+    next h =
+        let e : i * row_width + row_width ≡ (i + 1) * row_width = omega arith in
+        rw (drop-cons rows i [] h, e, add-one i)
 
-    pub finding_skip : 0 < left → (b : Bool) → b ≡ p (take (at + row_width - at) (drop at plan)) → b ≡ false → Finding plan n p places₀ k ps (at + row_width) (left - 1) found
-    finding_skip h b e z =
-        let i = f.inside in
-        record { inside = omega arith; long = f.long; few = f.few; same = rw (next h b e, z) at f.same }
+    pub finding_skip : i < length rows → p (get_or rows i []) ≡ false → Finding rows p places₀ k ps (i + 1) found
+    finding_skip h z = record { long = f.long; few = f.few; same = rw (next h, z) at f.same }
 
-    pub finding_more : 0 < left → (b : Bool) → b ≡ p (take (at + row_width - at) (drop at plan)) → b ≡ true → (found ≡ length ps → ⊥)
-        → Finding plan n p places₀ k (set ps found at) (at + row_width) (left - 1) (found + 1)
-    finding_more h b e z u =
-        let i = f.inside in
+    pub finding_more : i < length rows → p (get_or rows i []) ≡ true → (found ≡ length ps → ⊥) → Finding rows p places₀ k (set ps found (i * row_width)) (i + 1) (found + 1)
+    finding_more h z u =
         let g = f.few in
         let l = f.long in
         let less : found < length ps = omega (arith, u) in
-        let old = rw (next h b e, z) at f.same in
-        let front : take (found + 1) (set ps found at) ++ rest ≡ take found ps ++ at ∷ rest = rw (add-one, take-suc-set) (append_assoc (take found ps) (at ∷ []) rest) in
-        record { inside = omega arith; long = length-set ps found at ∙ l; few = omega arith; same = ap (λ (l' : List ℕ). take (length places₀) l') front ∙ old }
+        let old = rw (next h, z) at f.same in
+        let front : take (found + 1) (set ps found (i * row_width)) ++ rest ≡ take found ps ++ i * row_width ∷ rest = rw (add-one, take-suc-set) (append_assoc (take found ps) (i * row_width ∷ []) rest) in
+        record { long = length-set ps found (i * row_width) ∙ l; few = omega arith; same = ap (λ (l' : List ℕ). take (length places₀) l') front ∙ old }
 
-    pub finding_full : found ≡ length ps → Found plan n p places₀ k ps found
-    finding_full e =
-        let l = f.long in
-        let full : length (take found ps) ≡ length places₀ = length-take-le found ps (omega arith) ∙ omega arith in
-        (f.few, sym (take_at (take found ps) _ (length places₀) full) ∙ f.same)
-
-    pub finding_all : left ≤ 0 → Found plan n p places₀ k ps found
+    pub finding_all : length rows ≤ i → Found rows p places₀ k ps found
+    unfolding places_by
     finding_all h =
         let l = f.long in
         let g = f.few in
-        let z : left ≡ 0 = omega arith in
         let short : length (take found ps) ≤ length places₀ = omega (arith, length-take-le found ps (omega arith)) in
-        let nil : take found ps ++ places_by p at (slices row_width left (drop at plan)) ≡ take found ps = rw (z, places_none) (append-nil (take found ps)) in
+        let nil : take found ps ++ places_by p (i * row_width) (drop i rows) ≡ take found ps = rw (drop_all i rows h) (append-nil (take found ps)) in
         (f.few, sym (take_all (length places₀) (take found ps) short) ∙ ap (λ (l' : List ℕ). take (length places₀) l') (sym nil) ∙ f.same)
 
 -- the two searches: endpoints' rows, then PDRs'
-found_two : (e q : List ℕ → Bool) (plan : List ℕ) (n : ℕ) (p₀ p₁ p₂ : List ℕ) (k m : ℕ) → length p₀ ≡ max_grants → length p₁ ≡ max_grants
-    → Found plan n e p₀ 0 p₁ k → Found plan n q p₁ k p₂ m → take m p₂ ≡ take max_grants (places_by e 0 (rows_of n plan) ++ places_by q 0 (rows_of n plan))
-found_two e q plan n p₀ p₁ p₂ k m l l' f g = g.1 ∙ rw (l', f.1, l) (take_front max_grants (places_by e 0 (rows_of n plan)) (places_by q 0 (rows_of n plan)))
+found_two : (e q : List ℕ → Bool) (rows : List (List ℕ)) (p₀ p₁ p₂ : List ℕ) (k m : ℕ) → length p₀ ≡ max_grants → length p₁ ≡ max_grants
+    → Found rows e p₀ 0 p₁ k → Found rows q p₁ k p₂ m → take m p₂ ≡ take max_grants (places_by e 0 rows ++ places_by q 0 rows)
+found_two e q rows p₀ p₁ p₂ k m l l' f g = g.1 ∙ rw (l', f.1, l) (take_front max_grants (places_by e 0 rows) (places_by q 0 rows))
 
-pub found_both : (plan : List ℕ) (n : ℕ) (p₀ p₁ p₂ : List ℕ) (k m : ℕ) → length p₀ ≡ max_grants → length p₁ ≡ max_grants
-    → Found plan n (chosen_by false ie.create_endpoint) p₀ 0 p₁ k → Found plan n (chosen_by false ie.create_pdr) p₁ k p₂ m → take m p₂ ≡ places n plan
-unfolding places chosen_by choosing
-found_both plan n p₀ p₁ p₂ k m l l' f g = found_two (chosen_by false ie.create_endpoint) (chosen_by false ie.create_pdr) plan n p₀ p₁ p₂ k m l l' f g
+module _ (plan : List ℕ) (n : ℕ) (rows : List (List ℕ)) (same : rows ≡ rows_of n plan) (p₀ p₁ p₂ : List ℕ) (k m : ℕ) (l : length p₀ ≡ max_grants) (l' : length p₁ ≡ max_grants) where
+  pub found_both : Found rows (chosen_by false ie.create_endpoint) p₀ 0 p₁ k → Found rows (chosen_by false ie.create_pdr) p₁ k p₂ m → take m p₂ ≡ places n plan
+  unfolding places chosen_by choosing
+  found_both f g = rw (← same) (found_two (chosen_by false ie.create_endpoint) (chosen_by false ie.create_pdr) rows p₀ p₁ p₂ k m l l' f g)
 
-pub found_reports : (plan : List ℕ) (n : ℕ) (p₀ p₁ p₂ : List ℕ) (k m : ℕ) → length p₀ ≡ max_grants → length p₁ ≡ max_grants
-    → Found plan n (chosen_by true ie.create_endpoint) p₀ 0 p₁ k → Found plan n (chosen_by true ie.create_pdr) p₁ k p₂ m → take m p₂ ≡ report_places n plan
-unfolding report_places
-found_reports plan n p₀ p₁ p₂ k m l l' f g = found_two (chosen_by true ie.create_endpoint) (chosen_by true ie.create_pdr) plan n p₀ p₁ p₂ k m l l' f g
+  pub found_reports : Found rows (chosen_by true ie.create_endpoint) p₀ 0 p₁ k → Found rows (chosen_by true ie.create_pdr) p₁ k p₂ m → take m p₂ ≡ report_places n plan
+  unfolding report_places
+  found_reports f g = rw (← same) (found_two (chosen_by true ie.create_endpoint) (chosen_by true ie.create_pdr) rows p₀ p₁ p₂ k m l l' f g)

@@ -6,12 +6,12 @@ ghost use Rattle.std.specs.Prelude.{◌≡◌, ◌++◌, ◌+◌, ◌*◌, ◌^�
 ghost use Rattle.std.proofs.lemmas.List.Edits.{sets};
 ghost use Rattle.octets.specs.Choice.{value_or};
 ghost use Rattle.rules.specs.Limits.{max_pool, max_addresses};
-ghost use Rattle.plan.specs.Rows.{row_width, rows_of};
+ghost use Rattle.plan.specs.Rows.{row_width};
 ghost use Rattle.created.specs.Entries.{max_grants, within};
 ghost use Rattle.grants.specs.Choosing.{chosen_by, places_by, choose_id_in, teids_at, stores, Granted, report_places, chooses_address, addressed, lowest_address};
 ghost use Rattle.grants.specs.Steps.{Gives};
 
-use format::{types, words};
+use format::{Row, types, words};
 use unit::Settings;
 
 // A CHOOSE ID is one octet.
@@ -25,78 +25,53 @@ struct Given {
 }
 
 // Is it a row of this type that chooses an F-TEID, or anything, an F-TEID or an address?
-fn chooses(row: &[u64], tag: u64, anything: bool) -> bool
-    requires { length row.now ≡ row_width }
+#[tactic(auto, unfolding(crate::specs::Choosing::chosen_by, octets::specs::Rows::has_tag, octets::specs::Octets::bit))]
+fn chooses(row: &Row, tag: u64, anything: bool) -> bool
     ensures { result ≡ chosen_by anything tag row.now }
 {
-    if row[words::TAG] != tag {
-        return false;
-    }
-    if row[words::FLAGS] / 4 % 2 == 1 {
-        return true;
-    }
-    if !anything {
-        return false;
-    }
-    row[words::UE_KIND] == words::UE_CHOOSE
+    row[words::TAG] == tag
+        && (row[words::FLAGS] / 4 % 2 == 1 || anything && row[words::UE_KIND] == words::UE_CHOOSE)
 }
 
 // Writes to `places`, from the k-th on and as far as there is room, where the rows begin that choose; the answer is how many places there are then.
-fn find_places(
-    plan: &[u64],
-    n: usize,
-    tag: u64,
-    anything: bool,
-    places: &mut [usize],
-    k: usize,
-) -> usize
-    requires { (n * row_width ≤ length plan.now) × (k ≤ length places.old) }
-    ensures { (result ≤ length places.old) × (take result places.new ≡ take (length places.old) (take k places.old ++ places_by (chosen_by anything tag) 0 (rows_of n plan.now))) }
+fn find_places(rows: &[Row], tag: u64, anything: bool, places: &mut [usize], k: usize) -> usize
+    requires { k ≤ length places.old }
+    ensures { (result ≤ length places.old) × (take result places.new ≡ take (length places.old) (take k places.old ++ places_by (chosen_by anything tag) 0 rows.now)) }
 {
-    let mut at: usize = 0;
-    let mut left = n;
     let mut found = k;
-    while 0 < left {
-        let here = at;
-        at += format::ROW;
-        left -= 1;
-        if !chooses(&plan[here..at], tag, anything) {
-            continue;
+    for (i, row) in rows.iter().enumerate() {
+        if chooses(row, tag, anything) {
+            if found == places.len() {
+                return found;
+            }
+            places[found] = i * format::ROW;
+            found += 1;
         }
-        if found == places.len() {
-            return found;
-        }
-        places[found] = here;
-        found += 1;
     }
     found
 }
 
 // The CHOOSE ID of a row, or one past the last ID where it has none.
-fn choose_id(row: &[u64]) -> usize
-    requires { length row.now ≡ row_width }
+#[tactic(auto, unfolding(crate::specs::Choosing::choose_id_in, octets::specs::Octets::bit))]
+fn choose_id(row: &Row) -> usize
     ensures { result ≡ value_or 256 (choose_id_in row.now) }
 {
-    if row[words::FLAGS] / 8 % 2 != 1 {
-        return IDS;
+    if row[words::FLAGS] / 8 % 2 == 1 && row[words::CHOOSE_ID] < 256 {
+        row[words::CHOOSE_ID] as usize
+    } else {
+        IDS
     }
-    if row[words::CHOOSE_ID] >= 256 {
-        return IDS;
-    }
-    row[words::CHOOSE_ID] as usize
 }
 
 // The word at a place, 0 past the end.
 fn word_at(words: &[u64], i: usize) -> u64
     ensures { result ≡ get_or words.now i 0 }
 {
-    if i < words.len() {
-        return words[i];
-    }
-    0
+    words.get(i).copied().unwrap_or(0)
 }
 
 // Stores a word at a place, nothing past the end.
+// Stays: (c) by get_mut the goal returns-in_default does not close: what the slice holds is not known where there is no such word.
 fn set_word(words: &mut [u64], i: usize, v: u64)
     ensures { words.new ≡ set words.old i v }
 {
@@ -107,16 +82,9 @@ fn set_word(words: &mut [u64], i: usize, v: u64)
 
 // The TEID for a CHOOSE with this ID: the one that the ID has, else the next free one, which the ID then has; 0 if none is free.
 // Word i of `known` is one more than the TEID that CHOOSE ID i has, 0 if it has none.
-fn teid_for(
-    known: &mut [u64],
-    id: usize,
-    words: &[u64],
-    first: u64,
-    from: usize,
-    size: usize,
-) -> Given
-    requires { (size ≤ 64 * length words.now) × (size ≤ max_pool) × (first < 2 ^ 32) }
-    ensures { Gives first words.now from size known.old id result known.new }
+fn teid_for(known: &mut [u64], id: usize, words: &[u64], u: Settings, from: usize) -> Given
+    requires { (u.size ≤ 64 * length words.now) × (u.size ≤ max_pool) × (u.first < 2 ^ 32) }
+    ensures { Gives u.first words.now from u.size known.old id result known.new }
 {
     let has = word_at(known, id);
     if has != 0 {
@@ -125,15 +93,14 @@ fn teid_for(
             next: from,
         };
     }
-    let found = pool::next_free(words, from, size);
-    let Some(i) = found else {
+    let Some(i) = pool::next_free(words, from, u.size as usize) else {
         set_word(known, id, 1);
         return Given {
             teid: 0,
             next: from,
         };
     };
-    let teid = first + i as u64;
+    let teid = u.first + i as u64;
     set_word(known, id, teid + 1);
     Given { teid, next: i + 1 }
 }
@@ -145,21 +112,11 @@ fn fill(plan: &[u64], places: &[usize], words: &[u64], u: Settings, teids: &mut 
 {
     let mut known = [0u64; IDS];
     let mut from: usize = 0;
-    let mut i = 0;
-    while i < places.len() {
-        let p = places[i];
-        let row = &plan[p..p + format::ROW];
-        let g = teid_for(
-            &mut known,
-            choose_id(row),
-            words,
-            u.first,
-            from,
-            u.size as usize,
-        );
-        teids[i] = g.teid;
-        from = g.next;
-        i += 1;
+    for (i, place) in places.iter().enumerate() {
+        let id = choose_id(plan::row_at(plan, *place));
+        let given = teid_for(&mut known, id, words, u, from);
+        teids[i] = given.teid;
+        from = given.next;
     }
 }
 
@@ -168,10 +125,8 @@ fn store(plan: &mut [u64], places: &[usize], teids: &[u64])
     requires { T (within plan.old places.now) × (length places.now ≤ length teids.now) }
     ensures { plan.new ≡ stores plan.old places.now teids.now }
 {
-    let mut i = 0;
-    while i < places.len() {
-        plan[places[i] + words::TEID] = teids[i];
-        i += 1;
+    for (i, place) in places.iter().enumerate() {
+        plan[*place + words::TEID] = teids[i];
     }
 }
 
@@ -182,8 +137,9 @@ pub fn grant(plan: &mut [u64], n: usize, words: &[u64], u: Settings, places: &mu
     ensures { Granted n u.first words.now u.size plan.old result plan.new places.new }
 {
     let mut teids = [0u64; format::GRANTS];
-    let k = find_places(plan, n, types::CREATE_ENDPOINT, false, places, 0);
-    let m = find_places(plan, n, types::CREATE_PDR, false, places, k);
+    let rows = plan::rows(plan, n);
+    let k = find_places(rows, types::CREATE_ENDPOINT, false, places, 0);
+    let m = find_places(rows, types::CREATE_PDR, false, places, k);
     fill(plan, &places[..m], words, u, &mut teids);
     store(plan, &places[..m], &teids);
     m
@@ -195,22 +151,18 @@ pub fn reported(plan: &[u64], n: usize, places: &mut [usize]) -> usize
     requires { (n * row_width ≤ length plan.now) × (length places.old ≡ max_grants) }
     ensures { (result ≤ max_grants) × (take result places.new ≡ report_places n plan.now) }
 {
-    let k = find_places(plan, n, types::CREATE_ENDPOINT, true, places, 0);
-    find_places(plan, n, types::CREATE_PDR, true, places, k)
+    let rows = plan::rows(plan, n);
+    let k = find_places(rows, types::CREATE_ENDPOINT, true, places, 0);
+    find_places(rows, types::CREATE_PDR, true, places, k)
 }
 
 // Does the row create a record with a CHOOSE of an address?
-fn chooses_address(row: &[u64]) -> bool
-    requires { length row.now ≡ row_width }
+#[tactic(auto, unfolding(crate::specs::Choosing::chooses_address, octets::specs::Rows::has_tag))]
+fn chooses_address(row: &Row) -> bool
     ensures { result ≡ chooses_address row.now }
 {
-    if row[words::UE_KIND] != words::UE_CHOOSE {
-        return false;
-    }
-    if row[words::TAG] == types::CREATE_ENDPOINT {
-        return true;
-    }
-    row[words::TAG] == types::CREATE_PDR
+    row[words::UE_KIND] == words::UE_CHOOSE
+        && (row[words::TAG] == types::CREATE_ENDPOINT || row[words::TAG] == types::CREATE_PDR)
 }
 
 // Writes an address into every one of the n rows that chooses one.
@@ -218,16 +170,11 @@ fn store_address(plan: &mut [u64], n: usize, address: u64)
     requires { n * row_width ≤ length plan.old }
     ensures { plan.new ≡ addressed address n plan.old }
 {
-    let mut at: usize = 0;
-    let mut left = n;
-    while 0 < left {
-        let here = at;
-        at += format::ROW;
-        left -= 1;
-        if !chooses_address(&plan[here..at]) {
-            continue;
+    for i in 0..n {
+        let at = i * format::ROW;
+        if chooses_address(plan::row_at(plan, at)) {
+            plan[at + words::UE_ADDRESS] = address;
         }
-        plan[here + words::UE_ADDRESS] = address;
     }
 }
 
@@ -236,10 +183,9 @@ pub fn grant_address(plan: &mut [u64], n: usize, words: &[u64], u: Settings)
     requires { (n * row_width ≤ length plan.old) × (u.addresses ≤ 64 * length words.now) × (u.addresses ≤ max_addresses) × (u.first_address < 2 ^ 32) }
     ensures { plan.new ≡ addressed (lowest_address u.first_address words.now u.addresses) n plan.old }
 {
-    let found = pool::next_free(words, 0, u.addresses as usize);
-    let Some(i) = found else {
-        store_address(plan, n, 0);
-        return;
+    let address = match pool::next_free(words, 0, u.addresses as usize) {
+        Some(i) => u.first_address + i as u64,
+        None => 0,
     };
-    store_address(plan, n, u.first_address + i as u64);
+    store_address(plan, n, address);
 }

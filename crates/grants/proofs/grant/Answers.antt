@@ -30,7 +30,7 @@ fill-requires c =
     let few : c.find_places-m.result ≤ 24 = omega (arith, c.find_places-m.ensures.0, first_length) in
     let found : take c.find_places-m.result both_places ≡ places c.args.n c.args.plan.now = let s = c in
     let f = c.find_places-k in
-    found_both c.args.plan.now c.args.n c.args.places.now first_places both_places f.result c.find_places-m.result c.requires.4 first_length f.ensures c.find_places-m.ensures in
+    found_both c.args.plan.now c.args.n c.rows-rows.result.now c.rows-rows.ensures c.args.places.now first_places both_places f.result c.find_places-m.result c.requires.4 first_length f.ensures c.find_places-m.ensures in
     let found_length : length (take c.find_places-m.result both_places) ≡ c.find_places-m.result = length-take-le c.find_places-m.result both_places (omega (arith, few, both_length)) in
     let f = c in
     let s = c in
@@ -56,7 +56,7 @@ store-requires c =
     let few : c.find_places-m.result ≤ 24 = omega (arith, c.find_places-m.ensures.0, first_length) in
     let found : take c.find_places-m.result both_places ≡ places c.args.n c.args.plan.now = let s = c in
     let f = c.find_places-k in
-    found_both c.args.plan.now c.args.n c.args.places.now first_places both_places f.result c.find_places-m.result c.requires.4 first_length f.ensures c.find_places-m.ensures in
+    found_both c.args.plan.now c.args.n c.rows-rows.result.now c.rows-rows.ensures c.args.places.now first_places both_places f.result c.find_places-m.result c.requires.4 first_length f.ensures c.find_places-m.ensures in
     let found_length : length (take c.find_places-m.result both_places) ≡ c.find_places-m.result = length-take-le c.find_places-m.result both_places (omega (arith, few, both_length)) in
     let teids_length : length c.fill.new.teids ≡ 24 = search rules in
     let f = c in
@@ -72,7 +72,7 @@ returns c =
     let few : c.find_places-m.result ≤ 24 = omega (arith, c.find_places-m.ensures.0, first_length) in
     let found : take c.find_places-m.result both_places ≡ places c.args.n c.args.plan.now = let s = c in
     let f = c.find_places-k in
-    found_both c.args.plan.now c.args.n c.args.places.now first_places both_places f.result c.find_places-m.result c.requires.4 first_length f.ensures c.find_places-m.ensures in
+    found_both c.args.plan.now c.args.n c.rows-rows.result.now c.rows-rows.ensures c.args.places.now first_places both_places f.result c.find_places-m.result c.requires.4 first_length f.ensures c.find_places-m.ensures in
     let found_length : length (take c.find_places-m.result both_places) ≡ c.find_places-m.result = length-take-le c.find_places-m.result both_places (omega (arith, few, both_length)) in
     let f = c in
     let s = c in

@@ -12,4 +12,4 @@ returns c =
     let t = c in
     let f = c in
     let s = c in
-    (omega (arith, c.find_places.ensures.0, first_length), found_reports c.args.plan.now c.args.n c.args.places.now _ _ c.find_places-k.result c.find_places.result c.requires.1 first_length c.find_places-k.ensures c.find_places.ensures)
+    (omega (arith, c.find_places.ensures.0, first_length), found_reports c.args.plan.now c.args.n c.rows-rows.result.now c.rows-rows.ensures c.args.places.now _ _ c.find_places-k.result c.find_places.result c.requires.1 first_length c.find_places-k.ensures c.find_places.ensures)

@@ -1,12 +1,7 @@
 -- `grants::store` meets its contract: storing at the places that are left gives what storing at all gives. Assumes nothing.
-use mathlib.Core.Path.{◌≡◌}
-use Prim.Native.Nat.{◌-◌, ◌≤◌}
-use lib.ListN.{length, drop}
+use Rattle.std.proofs.Common.{◌≡◌, length, drop}
 use Rattle.grants.specs.Choosing.{stores}
 use Rattle.grants.proofs.store.Given as goal
 
 abbrev pub invariant-loop-i : goal.invariant-loop-i
-invariant-loop-i l = (l.i ≤ length l.places) × (length l.plan ≡ length l.initial.plan) × (stores l.plan (drop l.i l.places) (drop l.i l.teids) ≡ stores l.initial.plan l.places l.teids)
-
-abbrev pub decreases-loop-i : goal.decreases-loop-i
-decreases-loop-i l = length l.places - l.i
+invariant-loop-i l = (length l.plan ≡ length l.initial.plan) × (stores l.plan (drop l.i l.places) (drop l.i l.teids) ≡ stores l.initial.plan l.places l.teids)

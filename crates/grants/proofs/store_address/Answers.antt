@@ -1,30 +1,23 @@
 -- `grants::store_address` meets its contract: what is written and what is to come are the plan with all of it. Assumes nothing.
-use native.Mathlib.Omega.{arith}
-use borrow.Author.Tests.{not-true, not-false}
-use Rattle.grants.proofs.AddressLaws.{writing_none, writing_row, writing_skip, writing_more, writing_all}
+use Rattle.std.proofs.Common.{◌≡◌, ◌<◌, ◌+◌, ◌-◌, ◌*◌, ◌∙◌, sym, ap, arith}
+use Rattle.plan.specs.Rows.{row_width}
+use Rattle.grants.specs.Choosing.{chooses_address}
+use Rattle.grants.proofs.AddressLaws.{writing_skip, writing_more, writing_all}
 use Rattle.grants.proofs.store_address.Goals as goal
+use Rattle.grants.proofs.store_address.Goals.{then-chooses_address, else-chooses_address}
 
-pub loop-left-init : goal.loop-left-init
-loop-left-init c = writing_none _ c.requires
-
-pub chooses_address-requires : goal.chooses_address-requires
-chooses_address-requires c = writing_row _ c.loop-left.invariant c.loop-left-test.true
-
-pub loop-left-preserved-then-not-chooses_address : goal.loop-left-preserved-then-not-chooses_address
-loop-left-preserved-then-not-chooses_address c =
-    let t = c in
-    writing_skip _ c.loop-left.invariant c.loop-left-test.true c.chooses_address.result c.chooses_address.ensures (not-true _ c.if-not-chooses_address.true-raw)
-
-pub bounds-plan-here : goal.bounds-plan-here
-bounds-plan-here c = let t = c in omega (arith, c.loop-left.invariant.inside, c.loop-left-test.true)
-
-pub loop-left-preserved : goal.loop-left-preserved
-loop-left-preserved c =
-    let t = c in
-    writing_more _ c.loop-left.invariant c.loop-left-test.true c.chooses_address.result c.chooses_address.ensures (not-false _ c.if-not-chooses_address.false-raw)
-
-pub shape_of-plan : goal.shape_of-plan
-shape_of-plan c = c.loop-left.invariant.long
+pub loop-i-preserved : goal.loop-i-preserved
+loop-i-preserved c =
+    let l = c.loop-i in
+    let left : 0 < c.args.n - l.i = omega (arith, c.loop-i-test.true) in
+    let at : (l.i + 1) * row_width ≡ l.i * row_width + row_width = omega arith in
+    let rest : c.args.n - (l.i + 1) ≡ c.args.n - l.i - 1 = omega arith in
+    let row = c.chooses_address.ensures ∙ ap chooses_address c.row_at.ensures in
+    rw (at, rest)
+    (elim c.if-chooses_address.branch [
+      | then-chooses_address w ↦ rw w.plan-is (writing_more _ l.invariant left (sym w.if-chooses_address.true ∙ row))
+      | else-chooses_address w ↦ rw w.plan-is (writing_skip _ l.invariant left (sym w.if-chooses_address.false ∙ row))
+    ])
 
 pub returns : goal.returns
-returns c = writing_all _ c.loop-left.invariant c.loop-left-test.false
+returns c = writing_all _ c.loop-i.invariant (omega (arith, c.loop-i-test.false))
