@@ -20,6 +20,9 @@ const MADE: u32 = 0;
 
 const REFUSED: u32 = 1;
 
+// The outcome of a written restoration request.
+const WRITTEN: u32 = 0;
+
 // Outcomes of counting; the second is 01's outcome 1.
 const COUNTED: u32 = 0;
 
@@ -212,10 +215,18 @@ pub extern "C" fn pfcp_write_restoration(
     ensures { record { outcome = result; used = used.new; peer = peer.new; space = space.new }
         ≡ restoration_call table.now place ipv4.now ipv6.now space.old }
 {
-    let answer = restoration::write_restoration(table, place, ipv4, ipv6, space);
-    *used = answer.used;
-    *peer = answer.peer;
-    answer.outcome
+    match restoration::write_restoration(table, place, ipv4, ipv6, space) {
+        Ok(written) => {
+            *used = written.used;
+            *peer = written.peer;
+            WRITTEN
+        }
+        Err(unwritten) => {
+            *used = 0;
+            *peer = 0;
+            unwritten.outcome()
+        }
+    }
 }
 
 // Writes the number of sessions to count: outcome 0, or 1 and 0 where the table is broken or of wrong length.

@@ -14,10 +14,11 @@ use Rattle.octets.proofs.Numbers.{slices_next}
 use Rattle.rules.specs.Model.{Settings}
 use Rattle.writing.specs.Placed.{Placed}
 use Rattle.writing.proofs.PlacedLaws.{placed_none, placed_then}
+use Rattle.restoration.specs.declared.Kind.{Kind}
 use Rattle.restoration.specs.Records.{record_width, record_element, record_fits}
 use Rattle.restoration.proofs.KindLaws.{fits_wide}
 
-pub record Walk (k w : ℕ) (s : Settings) (records : List (List ℕ)) (at : ℕ) (out₀ rest : List ℕ) (left next : ℕ) (out : List ℕ) : Type 0 where
+pub record Walk (k : Kind) (w : ℕ) (s : Settings) (records : List (List ℕ)) (at : ℕ) (out₀ rest : List ℕ) (left next : ℕ) (out : List ℕ) : Type 0 where
   pub done : List ℕ
   pub placed : Placed out₀ at done next out
   pub split : concat_map (record_element k s) records ≡ done ++ concat_map (record_element k s) (slices w left rest)
@@ -26,41 +27,51 @@ pub record Walk (k w : ℕ) (s : Settings) (records : List (List ℕ)) (at : ℕ
   pub room : at + length (concat_map (record_element k s) records) ≤ length out₀
   pub long : length out ≡ length out₀
 
-module _ (k w : ℕ) (s : Settings) (at : ℕ) (out₀ : List ℕ) where
+module _ (k : Kind) (w : ℕ) (s : Settings) (at : ℕ) (out₀ : List ℕ) where
   pub walk_none : (n : ℕ) (area : List ℕ) → w ≡ record_width k → T (all (record_fits k) (slices (record_width k) n area))
       → at + length (concat_map (record_element k s) (slices (record_width k) n area)) ≤ length out₀
-      → Walk k w s (slices (record_width k) n area) at out₀ area n at out₀
+      → Walk k w s (slices (record_width k) n area) at out₀ area (n - 0) at out₀
   walk_none n area e f h =
+      let z : n - 0 ≡ n = omega arith in
       record {
         done = [];
         placed = placed_none out₀ at;
-        split = rw e;
-        fits = rw e f;
+        split = rw (e, z);
+        fits = rw (e, z) f;
         width = e;
         room = h;
         long = refl;
       }
 
-module _ {k w : ℕ} {s : Settings} {at : ℕ} {out₀ : List ℕ} {records : List (List ℕ)} {rest : List ℕ} {left next : ℕ} {out : List ℕ} where
-  module _ (walk : Walk k w s records at out₀ rest left next out) (more : 0 < left) where
+module _ {k : Kind} {w : ℕ} {s : Settings} {at : ℕ} {out₀ : List ℕ} {records : List (List ℕ)} {rest : List ℕ} {n i next : ℕ} {out : List ℕ} where
+  module _ (walk : Walk k w s records at out₀ rest (n - i) next out) (below : i < n) where
+    more : 0 < n - i
+    more = omega arith
+
+    next_left : n - i - 1 ≡ n - (i + 1)
+    next_left = omega arith
+
     abbrev first : List ℕ
     first = record_element k s (take w rest)
 
     abbrev later : List ℕ
-    later = concat_map (record_element k s) (slices w (left - 1) (drop w rest))
+    later = concat_map (record_element k s) (slices w (n - i - 1) (drop w rest))
 
-    first_split : concat_map (record_element k s) (slices w left rest) ≡ first ++ later
+    first_split : concat_map (record_element k s) (slices w (n - i) rest) ≡ first ++ later
     unfolding concat_map
-    first_split = rw (slices_next w left rest more)
+    first_split = rw (slices_next w (n - i) rest more)
 
-    fits_all : T (all (record_fits k) (take w rest ∷ slices w (left - 1) (drop w rest)))
-    fits_all = subst (λ (l : List (List ℕ)). T (all (record_fits k) l)) (slices_next w left rest more) walk.fits
+    fits_all : T (all (record_fits k) (take w rest ∷ slices w (n - i - 1) (drop w rest)))
+    fits_all = subst (λ (l : List (List ℕ)). T (all (record_fits k) l)) (slices_next w (n - i) rest more) walk.fits
 
     pub walk_fits : T (record_fits k (take w rest))
-    walk_fits = all_head (record_fits k) (take w rest) (slices w (left - 1) (drop w rest)) fits_all
+    walk_fits = all_head (record_fits k) (take w rest) (slices w (n - i - 1) (drop w rest)) fits_all
 
     pub walk_wide : w ≤ length rest
     walk_wide = let l : length (take w rest) ≡ w = fits_wide k (take w rest) walk_fits ∙ sym walk.width in omega (arith, length-take w rest)
+
+    pub walk_long : w ≡ length (take w rest)
+    walk_long = walk.width ∙ sym (fits_wide k (take w rest) walk_fits)
 
     pub walk_room : next + length first ≤ length out
     walk_room =
@@ -73,27 +84,27 @@ module _ {k w : ℕ} {s : Settings} {at : ℕ} {out₀ : List ℕ} {records : Li
         omega arith
 
     pub walk_more : {next' : ℕ} {out' : List ℕ} → Placed out next first next' out' → length out' ≡ length out
-        → Walk k w s records at out₀ (take (length rest - w) (drop w rest)) (left - 1) next' out'
+        → Walk k w s records at out₀ (take (length rest - w) (drop w rest)) (n - (i + 1)) next' out'
     walk_more {next'} {out'} p l =
         let whole : take (length rest - w) (drop w rest) ≡ drop w rest = take_all (length rest - w) (drop w rest) (omega (arith, length-drop w rest)) in
         let b = length-append walk.done (first ++ later) in
         let d : length (concat_map (record_element k s) records) ≡ length (walk.done ++ (first ++ later)) = ap length (walk.split ∙ ap (λ (l : List ℕ). walk.done ++ l) first_split) in
         let e = walk.room in
-        rw whole
+        rw (whole, ← next_left)
         (record {
           done = walk.done ++ first;
           placed = placed_then walk.placed p (omega arith);
           split = walk.split ∙ ap (λ (l : List ℕ). walk.done ++ l) first_split ∙ sym (append_assoc walk.done first later);
-          fits = all_tail (record_fits k) (take w rest) (slices w (left - 1) (drop w rest)) fits_all;
+          fits = all_tail (record_fits k) (take w rest) (slices w (n - i - 1) (drop w rest)) fits_all;
           width = walk.width;
           room = walk.room;
           long = l ∙ walk.long;
         })
 
-  pub walk_all : Walk k w s records at out₀ rest left next out → left ≤ 0
+  pub walk_all : Walk k w s records at out₀ rest (n - i) next out → n ≤ i
       → Placed out₀ at (concat_map (record_element k s) records) next out
   unfolding slices concat_map
   walk_all walk h =
-      let z : left ≡ 0 = omega arith in
+      let z : n - i ≡ 0 = omega arith in
       let e : concat_map (record_element k s) records ≡ walk.done = walk.split ∙ rw z (append-nil walk.done) in
       rw e walk.placed

@@ -21,9 +21,8 @@ use Rattle.rules.specs.Message.{establishment}
 use Rattle.writing.specs.Placed.{Placed}
 use Rattle.writing.specs.Heads.{message_head}
 use Rattle.writing.proofs.ElementSteps.{placed_message}
-use Rattle.restoration.specs.declared.Answer.{Answer}
 use Rattle.restoration.specs.Records.{content}
-use Rattle.restoration.specs.Answers.{writing_of, Ready}
+use Rattle.restoration.specs.Answers.{Ready}
 use Rattle.table.proofs.SoundSlots.{slot_at, count_read}
 use Rattle.restoration.proofs.SoundSlots.{request_is, content_room}
 
@@ -56,11 +55,9 @@ module _ (who : ℕ) (request space : List ℕ) {used : ℕ} {out out' : List �
   length_used : used ≡ length request
   length_used = p.ends ∙ zero-add (length request)
 
-  pub into_short : (r : Answer) → length space < used → (r.outcome ≡ 4) × (r.used ≡ 0) × (r.peer ≡ 0) → writing_of r space ≡ write_into who request space
+  pub into_short : length space < used → unwritten 4 space ≡ write_into who request space
   unfolding write_into
-  into_short r h e =
-      let n = length_used in
-      rw (lt-ltb (length space) (length request) (omega arith)) (λ i. record { outcome = e.0 i; used = e.1 i; peer = e.2 i; space = space })
+  into_short h = let n = length_used in rw (lt-ltb (length space) (length request) (omega arith))
 
   pub into_written : (peer : ℕ) (space' : List ℕ) → used ≤ length space → space' ≡ put 0 (take used out') space → peer ≡ who
       → ◌≡◌ {A = Writing} (record { outcome = 0; used = used; peer = peer; space = space' }) (write_into who request space)
@@ -77,14 +74,10 @@ module _ (t : List ℕ) (place : ℕ) (ipv4 ipv6 space : List ℕ) where
   abbrev answer : Writing
   answer = write_restoration t place ipv4 ipv6 space
 
-  -- a refusal's answer
-  refusal : (n : ℕ) (r : Answer) → (r.outcome ≡ n) × (r.used ≡ 0) × (r.peer ≡ 0) → writing_of r space ≡ unwritten n space
-  refusal n r e = λ i. record { outcome = e.0 i; used = e.1 i; peer = e.2 i; space = space }
-
-  pub answer_broken : (b : Bool) (r : Answer) → b ≡ sound t → not b ≡ true → (r.outcome ≡ 1) × (r.used ≡ 0) × (r.peer ≡ 0) → writing_of r space ≡ answer
+  pub answer_broken : (b : Bool) → b ≡ sound t → not b ≡ true → unwritten 1 space ≡ answer
   unfolding write_restoration
-  answer_broken true r e z f = absurd (let w : ◌≡◌ {A = ℕ} 0 1 = cc in omega arith)
-  answer_broken false r e z f = rw (← e) (refusal 1 r f)
+  answer_broken true e z = absurd (let w : ◌≡◌ {A = ℕ} 0 1 = cc in omega arith)
+  answer_broken false e z = rw (← e)
 
   module _ (b : Bool) (e : b ≡ sound t) (z : not b ≡ false) where
     pub sound_is : T (sound t)
@@ -98,15 +91,14 @@ module _ (t : List ℕ) (place : ℕ) (ipv4 ipv6 space : List ℕ) where
       sessions : length (view_sessions t) ≡ n
       sessions = count_read t sound_is ∙ sym count
 
-      pub answer_past : (r : Answer) → n ≤ place → (r.outcome ≡ 2) × (r.used ≡ 0) × (r.peer ≡ 0) → writing_of r space ≡ answer
+      pub answer_past : n ≤ place → unwritten 2 space ≡ answer
       unfolding write_restoration
-      answer_past r h f = rw (is_true (sound t) sound_is, sessions, le-leb n place h) (refusal 2 r f)
+      answer_past h = rw (is_true (sound t) sound_is, sessions, le-leb n place h)
 
       module _ (below : place < n) (a : Bool) (g : a ≡ sender_addressed ipv4 ipv6) where
-        pub answer_unaddressed : (r : Answer) → not a ≡ true → (r.outcome ≡ 3) × (r.used ≡ 0) × (r.peer ≡ 0) → writing_of r space ≡ answer
+        pub answer_unaddressed : not a ≡ true → unwritten 3 space ≡ answer
         unfolding write_restoration
-        answer_unaddressed r y f =
-            rw (is_true (sound t) sound_is, sessions, lt-leb n place below, ← g, y) (refusal 3 r f)
+        answer_unaddressed y = rw (is_true (sound t) sound_is, sessions, lt-leb n place below, ← g, y)
 
         pub ready_now : not a ≡ false → Ready t place ipv4 ipv6
         ready_now y = record { sound = sound_is; live = (let k = sessions in omega arith); address = go a g y }
@@ -115,7 +107,7 @@ module _ (t : List ℕ) (place : ℕ) (ipv4 ipv6 space : List ℕ) where
             go true g' y' = of_true (sym g')
             go false g' y' = absurd (let w : ◌≡◌ {A = ℕ} 0 1 = cc in omega arith)
 
-        pub answer_written : (r : Answer) (space' : List ℕ) → not a ≡ false → writing_of r space' ≡ write_into (session_at (view_sessions t) place).peer (restoration_at t place ipv4 ipv6) space → writing_of r space' ≡ answer
+        pub answer_written : (w : Writing) → not a ≡ false → w ≡ write_into (session_at (view_sessions t) place).peer (restoration_at t place ipv4 ipv6) space → w ≡ answer
         unfolding write_restoration
-        answer_written r space' y f =
+        answer_written w y f =
             rw (is_true (sound t) sound_is, sessions, lt-leb n place below, ← g, y) f

@@ -17,6 +17,8 @@ use Rattle.rules.specs.Types as ie
 use Rattle.writing.specs.Placed.{Placed}
 use Rattle.fseid.proofs.ValueLaws.{length_fseid}
 use Rattle.writing.proofs.PlacedLaws.{length_element, placed_then}
+use Rattle.restoration.specs.declared.Kind.{Kind}
+use Rattle.restoration.specs.declared.Kind.TheVariants as kind
 use Rattle.restoration.specs.Records.{record_width, record_element, record_fits, area_fits, content}
 
 concat_map_map : {A : Type 0} (f : A → List ℕ) (g : List ℕ → A) (xs : List (List ℕ)) → concat_map f (map g xs) ≡ concat_map (λ x. f (g x)) xs
@@ -25,38 +27,38 @@ concat_map_map f g [] = refl
 concat_map_map f g (x ∷ xs) = ap (λ (l : List ℕ). f (g x) ++ l) (concat_map_map f g xs)
 
 -- the elements of n records of a kind part_from a place on
-abbrev pub area_elements : ℕ → Settings → ℕ → List ℕ → List ℕ
+abbrev pub area_elements : Kind → Settings → ℕ → List ℕ → List ℕ
 area_elements k s n xs = concat_map (record_element k s) (slices (record_width k) n xs)
 
 module _ (s : Settings) (slot : List ℕ) where
   pub records_are : record_elements s (view_session slot)
-      ≡ area_elements ie.create_pdr s (get_or slot pdr_count_at 0) (drop pdrs_at slot) ++ (area_elements ie.create_endpoint s (get_or slot endpoint_count_at 0) (drop endpoints_at slot) ++ area_elements ie.fqcsid s (get_or slot csid_count_at 0) (drop csids_at slot))
-  unfolding record_elements view_session view_area record_element record_width octet_at
+      ≡ area_elements kind.Pdr s (get_or slot pdr_count_at 0) (drop pdrs_at slot) ++ (area_elements kind.Endpoint s (get_or slot endpoint_count_at 0) (drop endpoints_at slot) ++ area_elements kind.Csid s (get_or slot csid_count_at 0) (drop csids_at slot))
+  unfolding record_elements view_session view_area octet_at
   records_are =
       ap₂ (λ (a b : List ℕ). a ++ b) (concat_map_map (pdr_element s) view_pdr (slices pdr_width (get_or slot pdr_count_at 0) (drop pdrs_at slot)))
       (ap₂ (λ (a b : List ℕ). a ++ b) (concat_map_map (endpoint_element s) view_endpoint (slices endpoint_width (get_or slot endpoint_count_at 0) (drop endpoints_at slot)))
       (concat_map_map csid_element view_csid (slices csid_width (get_or slot csid_count_at 0) (drop csids_at slot))))
 
   pub length_records : length (record_elements s (view_session slot))
-      ≡ length (area_elements ie.create_pdr s (get_or slot pdr_count_at 0) (drop pdrs_at slot)) + (length (area_elements ie.create_endpoint s (get_or slot endpoint_count_at 0) (drop endpoints_at slot)) + length (area_elements ie.fqcsid s (get_or slot csid_count_at 0) (drop csids_at slot)))
+      ≡ length (area_elements kind.Pdr s (get_or slot pdr_count_at 0) (drop pdrs_at slot)) + (length (area_elements kind.Endpoint s (get_or slot endpoint_count_at 0) (drop endpoints_at slot)) + length (area_elements kind.Csid s (get_or slot csid_count_at 0) (drop csids_at slot)))
   length_records =
-      let a = area_elements ie.create_pdr s (get_or slot pdr_count_at 0) (drop pdrs_at slot) in
-      let b = area_elements ie.create_endpoint s (get_or slot endpoint_count_at 0) (drop endpoints_at slot) in
-      let c = area_elements ie.fqcsid s (get_or slot csid_count_at 0) (drop csids_at slot) in
+      let a = area_elements kind.Pdr s (get_or slot pdr_count_at 0) (drop pdrs_at slot) in
+      let b = area_elements kind.Endpoint s (get_or slot endpoint_count_at 0) (drop endpoints_at slot) in
+      let c = area_elements kind.Csid s (get_or slot csid_count_at 0) (drop csids_at slot) in
       ap length records_are ∙ length-append a (b ++ c) ∙ ap (λ (n : ℕ). length a + n) (length-append b c)
 
   -- an area as it is lent
-  pub area_fits_lem : (k n at : ℕ) → T (area_fits k n at slot) → T (all (record_fits k) (slices (record_width k) n (take (length slot - at) (drop at slot))))
+  pub area_fits_lem : (k : Kind) (n at : ℕ) → T (area_fits k n at slot) → T (all (record_fits k) (slices (record_width k) n (take (length slot - at) (drop at slot))))
   unfolding area_fits
   area_fits_lem k n at h = rw (part_from at slot) h
 
-  pub area_length : (k n at : ℕ) → length (area_elements k s n (take (length slot - at) (drop at slot))) ≡ length (area_elements k s n (drop at slot))
+  pub area_length : (k : Kind) (n at : ℕ) → length (area_elements k s n (take (length slot - at) (drop at slot))) ≡ length (area_elements k s n (drop at slot))
   area_length k n at = rw (part_from at slot)
 
   pub records_steps : (at : ℕ) (out : List ℕ) {a b e : ℕ} {out₁ out₂ out₃ : List ℕ} → at + length (record_elements s (view_session slot)) ≤ length out
-      → Placed out at (area_elements ie.create_pdr s (get_or slot pdr_count_at 0) (take (length slot - pdrs_at) (drop pdrs_at slot))) a out₁
-      → Placed out₁ a (area_elements ie.create_endpoint s (get_or slot endpoint_count_at 0) (take (length slot - endpoints_at) (drop endpoints_at slot))) b out₂
-      → Placed out₂ b (area_elements ie.fqcsid s (get_or slot csid_count_at 0) (take (length slot - csids_at) (drop csids_at slot))) e out₃
+      → Placed out at (area_elements kind.Pdr s (get_or slot pdr_count_at 0) (take (length slot - pdrs_at) (drop pdrs_at slot))) a out₁
+      → Placed out₁ a (area_elements kind.Endpoint s (get_or slot endpoint_count_at 0) (take (length slot - endpoints_at) (drop endpoints_at slot))) b out₂
+      → Placed out₂ b (area_elements kind.Csid s (get_or slot csid_count_at 0) (take (length slot - csids_at) (drop csids_at slot))) e out₃
       → length out₁ ≡ length out → Placed out at (record_elements s (view_session slot)) e out₃
   records_steps at out {a} {b} {e} {out₁} {out₂} {out₃} h p q r l =
       let p' = rw (part_from pdrs_at slot) at p in

@@ -23,13 +23,13 @@ use Rattle.rules.specs.Sound.{csid_allowed, session_allowed, sound}
 use Rattle.rules.specs.Reply.{message}
 use Rattle.rules.specs.Restoration.{sender_allowed, restoration}
 use Rattle.rules.specs.Restoring.{session_at, address_tests, sender_addressed, sender_at, restoration_at}
-use Rattle.rules.specs.Types as ie
 use Rattle.rules.specs.Message.{establishment}
 use Rattle.laws.proofs.KeptRules.{node_address_kept, csid_kept, sender_allowed_lem}
 use Rattle.laws.proofs.MessageHeader.{message_length_lem}
 use Rattle.laws.proofs.RestorationRead.{msg_short}
 use Rattle.table.proofs.SoundSlots.{few_pdrs_lem, few_endpoints_lem, few_csids_lem, csids_kept, slot_at, table_long_lem, settings_allowed_lem, within_limit, few_sessions_lem, slot_long_lem, slot_session, place_allowed}
-use Rattle.restoration.specs.Records.{record_width, record_fits, area_fits, SlotFits, content}
+use Rattle.restoration.specs.declared.Kind.TheVariants as kind
+use Rattle.restoration.specs.Records.{record_fits, area_fits, SlotFits, content}
 
 -- ---- the records of an area
 
@@ -44,8 +44,8 @@ slices_each w p q f (suc n) xs h g =
     (slices_each w p q f n (drop w xs) (omega (arith, length-drop w xs)) (all_tail q (take w xs) (slices w n (drop w xs)) g))
 
 -- an FQ-CSID that keeps the rules has a Node-ID type below 16
-csid_type : (ys : List ℕ) → length ys ≡ csid_width → T (csid_allowed (view_csid ys)) → T (record_fits ie.fqcsid ys)
-unfolding view_csid csid_from fields_at record_fits octet_at
+csid_type : (ys : List ℕ) → length ys ≡ csid_width → T (csid_allowed (view_csid ys)) → T (record_fits kind.Csid ys)
+unfolding view_csid csid_from fields_at octet_at
 csid_type ys l h =
     let c = view_csid ys in
     let t = (node_address_kept c.id_type c.address (csid_kept c h).address).type in
@@ -53,13 +53,13 @@ csid_type ys l h =
 
 module _ (s : Settings) (slot : List ℕ) (long : length slot ≡ session_width) (h : T (session_allowed s (view_session slot))) where
   pub slot_fits : SlotFits slot
-  unfolding area_fits record_width record_fits octet_at
+  unfolding area_fits octet_at
   slot_fits =
       record {
         long = long;
-        pdrs = slices_each pdr_width (record_fits ie.create_pdr) (λ _. true) (λ ys l _. yes_eqb l) (get_or slot pdr_count_at 0) (drop pdrs_at slot) (let f = few_pdrs_lem s slot long h in omega (arith, length-drop pdrs_at slot)) (all_always (λ _. true) (λ _. tt) (slices pdr_width (get_or slot pdr_count_at 0) (drop pdrs_at slot)));
-        endpoints = slices_each endpoint_width (record_fits ie.create_endpoint) (λ _. true) (λ ys l _. yes_eqb l) (get_or slot endpoint_count_at 0) (drop endpoints_at slot) (let f = few_endpoints_lem s slot long h in omega (arith, length-drop endpoints_at slot)) (all_always (λ _. true) (λ _. tt) (slices endpoint_width (get_or slot endpoint_count_at 0) (drop endpoints_at slot)));
-        csids = slices_each csid_width (record_fits ie.fqcsid) (λ ys. csid_allowed (view_csid ys)) csid_type (get_or slot csid_count_at 0) (drop csids_at slot) (let f = few_csids_lem s slot long h in omega (arith, length-drop csids_at slot)) (csids_kept s slot long h);
+        pdrs = slices_each pdr_width (record_fits kind.Pdr) (λ _. true) (λ ys l _. yes_eqb l) (get_or slot pdr_count_at 0) (drop pdrs_at slot) (let f = few_pdrs_lem s slot long h in omega (arith, length-drop pdrs_at slot)) (all_always (λ _. true) (λ _. tt) (slices pdr_width (get_or slot pdr_count_at 0) (drop pdrs_at slot)));
+        endpoints = slices_each endpoint_width (record_fits kind.Endpoint) (λ _. true) (λ ys l _. yes_eqb l) (get_or slot endpoint_count_at 0) (drop endpoints_at slot) (let f = few_endpoints_lem s slot long h in omega (arith, length-drop endpoints_at slot)) (all_always (λ _. true) (λ _. tt) (slices endpoint_width (get_or slot endpoint_count_at 0) (drop endpoints_at slot)));
+        csids = slices_each csid_width (record_fits kind.Csid) (λ ys. csid_allowed (view_csid ys)) csid_type (get_or slot csid_count_at 0) (drop csids_at slot) (let f = few_csids_lem s slot long h in omega (arith, length-drop csids_at slot)) (csids_kept s slot long h);
       }
 
 -- ---- the slots of a sound table

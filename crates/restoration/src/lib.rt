@@ -16,7 +16,7 @@ ghost use Rattle.rules.specs.Types as ie;
 ghost use Rattle.unit.specs.Meaning.{settings_of};
 ghost use Rattle.writing.specs.Placed.{Placed};
 ghost use Rattle.restoration.specs.Records.{record_width, record_element, record_fits, CsidOf, SlotFits, content};
-ghost use Rattle.restoration.specs.Answers.{writing_of, Ready};
+ghost use Rattle.restoration.specs.Answers.{outcome_of, writing_of, Ready};
 
 use format::{header, kinds, types};
 use fqcsid::FqCsid;
@@ -157,46 +157,50 @@ fn write_csid(csid: &[u8], out: &mut [u8], at: usize) -> usize
     end
 }
 
-// The width of a kind's records.
-fn record_width(kind: u64) -> usize
-    ensures { result ≡ record_width kind }
-{
-    if kind == types::CREATE_PDR {
-        return format::PDR;
+// The kinds of records that a session's slot holds, each in an area of its own.
+#[derive(Clone, Copy, Debug, PartialEq, Eq)]
+pub enum Kind {
+    Pdr,
+    Endpoint,
+    Csid,
+}
+
+impl Kind {
+    // The width of its records.
+    fn width(self) -> usize
+        ensures { result ≡ record_width self }
+    {
+        match self {
+            Kind::Pdr => format::PDR,
+            Kind::Endpoint => format::ENDPOINT,
+            Kind::Csid => format::CSID,
+        }
     }
-    if kind == types::CREATE_ENDPOINT {
-        return format::ENDPOINT;
-    }
-    format::CSID
 }
 
 // A record's element.
-pub fn write_record(u: Settings, kind: u64, slot: &[u8], out: &mut [u8], at: usize) -> usize
+pub fn write_record(u: Settings, kind: Kind, slot: &[u8], out: &mut [u8], at: usize) -> usize
     requires { T (record_fits kind slot.now) × (at + length (record_element kind (settings_of u) slot.now) ≤ length out.old) }
     ensures { Placed out.old at (record_element kind (settings_of u) slot.now) result out.new }
 {
-    if kind == types::CREATE_PDR {
-        return write_pdr(u, slot, out, at);
+    match kind {
+        Kind::Pdr => write_pdr(u, slot, out, at),
+        Kind::Endpoint => write_endpoint(u, slot, out, at),
+        Kind::Csid => write_csid(slot, out, at),
     }
-    if kind == types::CREATE_ENDPOINT {
-        return write_endpoint(u, slot, out, at);
-    }
-    write_csid(slot, out, at)
 }
 
 // The elements of the first n records of an area.
-fn write_area(u: Settings, kind: u64, area: &[u8], n: usize, out: &mut [u8], at: usize) -> usize
+fn write_area(u: Settings, kind: Kind, area: &[u8], n: usize, out: &mut [u8], at: usize) -> usize
     requires { T (all (record_fits kind) (slices (record_width kind) n area.now)) × (at + length (concat_map (record_element kind (settings_of u)) (slices (record_width kind) n area.now)) ≤ length out.old) }
     ensures { Placed out.old at (concat_map (record_element kind (settings_of u)) (slices (record_width kind) n area.now)) result out.new }
 {
-    let w = record_width(kind);
+    let w = kind.width();
     let mut rest = area;
-    let mut left = n;
     let mut next = at;
-    while 0 < left {
+    for i in 0..n {
         next = write_record(u, kind, &rest[..w], out, next);
         rest = &rest[w..];
-        left -= 1;
     }
     next
 }
@@ -208,7 +212,7 @@ fn write_records(u: Settings, slot: &[u8], out: &mut [u8], at: usize) -> usize
 {
     let pdrs = write_area(
         u,
-        types::CREATE_PDR,
+        Kind::Pdr,
         &slot[format::PDRS..],
         slot[format::PDR_COUNT] as usize,
         out,
@@ -216,7 +220,7 @@ fn write_records(u: Settings, slot: &[u8], out: &mut [u8], at: usize) -> usize
     );
     let endpoints = write_area(
         u,
-        types::CREATE_ENDPOINT,
+        Kind::Endpoint,
         &slot[format::ENDPOINTS..],
         slot[format::ENDPOINT_COUNT] as usize,
         out,
@@ -224,7 +228,7 @@ fn write_records(u: Settings, slot: &[u8], out: &mut [u8], at: usize) -> usize
     );
     write_area(
         u,
-        types::FQCSID,
+        Kind::Csid,
         &slot[format::CSIDS..],
         slot[format::CSID_COUNT] as usize,
         out,
@@ -268,41 +272,47 @@ fn write_request(t: &[u8], place: usize, ipv4: &[u8], ipv6: &[u8], out: &mut [u8
 fn address_fits(n: usize, whole: usize) -> bool
     ensures { result ≡ (eqb n 0 || eqb n whole) }
 {
-    if n == 0 {
-        return true;
-    }
-    n == whole
+    n == 0 || n == whole
 }
 
 // Whether the control plane has an address: whole ones, and one at least.
 fn has_address(ipv4: &[u8], ipv6: &[u8]) -> bool
     ensures { result ≡ sender_addressed ipv4.now ipv6.now }
 {
-    if !address_fits(ipv4.len(), 4) {
-        return false;
-    }
-    if !address_fits(ipv6.len(), 16) {
-        return false;
-    }
-    0 < ipv4.len() + ipv6.len()
+    address_fits(ipv4.len(), 4) && address_fits(ipv6.len(), 16) && 0 < ipv4.len() + ipv6.len()
 }
 
-// What the host gets: the outcome, how many octets of the space hold the request, and the peer under which it is to be run (02 (xiv)).
-#[derive(Clone, Copy)]
-pub struct Answer {
-    pub outcome: u32,
+// What stands in the space: how many octets of it hold the request, and the peer under which it is to be run (02 (xiv)).
+#[derive(Clone, Copy, Debug, Default, PartialEq, Eq)]
+pub struct Written {
     pub used: usize,
     pub peer: u32,
 }
 
-// A refusal.
-fn refused(outcome: u32) -> Answer
-    ensures { (result.outcome ≡ outcome) × (result.used ≡ 0) × (result.peer ≡ 0) }
-{
-    Answer {
-        outcome: outcome,
-        used: 0,
-        peer: 0,
+// Why no request is written.
+#[derive(Clone, Copy, Debug, PartialEq, Eq)]
+pub enum Unwritten {
+    // The table is broken.
+    Broken,
+    // The place is past the last session.
+    NoSession,
+    // The control plane has no address.
+    NoAddress,
+    // The space is too small.
+    NoRoom,
+}
+
+impl Unwritten {
+    // The host's outcome.
+    pub fn outcome(self) -> u32
+        ensures { result ≡ outcome_of self }
+    {
+        match self {
+            Unwritten::Broken => 1,
+            Unwritten::NoSession => 2,
+            Unwritten::NoAddress => 3,
+            Unwritten::NoRoom => 4,
+        }
     }
 }
 
@@ -316,21 +326,26 @@ fn peer_at(t: &[u8], place: usize) -> u32
 }
 
 // The restoration request of the session at a place, in a space that is lent.
-fn write_at(t: &[u8], place: usize, ipv4: &[u8], ipv6: &[u8], space: &mut [u8]) -> Answer
+fn write_at(
+    t: &[u8],
+    place: usize,
+    ipv4: &[u8],
+    ipv6: &[u8],
+    space: &mut [u8],
+) -> Result<Written, Unwritten>
     requires { Ready t.now place ipv4.now ipv6.now }
     ensures { writing_of result space.new ≡ write_into (session_at (view_sessions t.now) place).peer (restoration_at t.now place ipv4.now ipv6.now) space.old }
 {
     let mut request = [0u8; format::RESTORATION];
     let used = write_request(t, place, ipv4, ipv6, &mut request);
     if space.len() < used {
-        return refused(4);
+        return Err(Unwritten::NoRoom);
     }
     octets::copy(space, 0, &request[..used]);
-    Answer {
-        outcome: 0,
-        used: used,
+    Ok(Written {
+        used,
         peer: peer_at(t, place),
-    }
+    })
 }
 
 // Writes the restoration request of the session at a place, of any octets and any place; a refusal writes nothing.
@@ -340,17 +355,17 @@ pub fn write_restoration(
     ipv4: &[u8],
     ipv6: &[u8],
     space: &mut [u8],
-) -> Answer
+) -> Result<Written, Unwritten>
     ensures { writing_of result space.new ≡ write_restoration t.now place ipv4.now ipv6.now space.old }
 {
     if !table::is_sound(t) {
-        return refused(1);
+        return Err(Unwritten::Broken);
     }
     if octets::read(t, format::COUNT, 2) as usize <= place {
-        return refused(2);
+        return Err(Unwritten::NoSession);
     }
     if !has_address(ipv4, ipv6) {
-        return refused(3);
+        return Err(Unwritten::NoAddress);
     }
     write_at(t, place, ipv4, ipv6, space)
 }

@@ -11,7 +11,7 @@ use Rattle.restoration.proofs.write_at.Goals as goal
 pub returns-then-space-used : goal.returns-then-space-used
 returns-then-space-used c =
     let a = c.args in
-    into_short (session_at (view_sessions a.t.now) a.place).peer (restoration_at a.t.now a.place a.ipv4.now a.ipv6.now) a.space.now c.write_request-used.ensures c.refused.result c.if-space-used.true c.refused.ensures
+    into_short (session_at (view_sessions a.t.now) a.place).peer (restoration_at a.t.now a.place a.ipv4.now a.ipv6.now) a.space.now c.write_request-used.ensures c.if-space-used.true
 
 pub slice_bounds-request-end : goal.slice_bounds-request-end
 slice_bounds-request-end c =

@@ -18,13 +18,13 @@ pub returns-then-read-place : goal.returns-then-read-place
 returns-then-read-place c =
     let a = c.args in
     let n = c.read in
-    answer_past a.t.now a.place a.ipv4.now a.ipv6.now a.space.now _ c.is_sound.ensures c.if-not-is_sound.false-raw n.result n.ensures.0 c.refused-then-read-place.result c.if-read-place.true c.refused-then-read-place.ensures
+    answer_past a.t.now a.place a.ipv4.now a.ipv6.now a.space.now _ c.is_sound.ensures c.if-not-is_sound.false-raw n.result n.ensures.0 c.if-read-place.true
 
 pub returns-then-not-has_address : goal.returns-then-not-has_address
 returns-then-not-has_address c =
     let a = c.args in
     let n = c.read in
-    answer_unaddressed a.t.now a.place a.ipv4.now a.ipv6.now a.space.now _ c.is_sound.ensures c.if-not-is_sound.false-raw n.result n.ensures.0 c.if-read-place.false _ c.has_address.ensures c.refused-then-not-has_address.result c.if-not-has_address.true-raw c.refused-then-not-has_address.ensures
+    answer_unaddressed a.t.now a.place a.ipv4.now a.ipv6.now a.space.now _ c.is_sound.ensures c.if-not-is_sound.false-raw n.result n.ensures.0 c.if-read-place.false _ c.has_address.ensures c.if-not-has_address.true-raw
 
 pub write_at-requires : goal.write_at-requires
 write_at-requires c =
@@ -37,4 +37,4 @@ returns c =
     let a = c.args in
     let n = c.read in
     let w = c.write_at in
-    answer_written a.t.now a.place a.ipv4.now a.ipv6.now a.space.now _ c.is_sound.ensures c.if-not-is_sound.false-raw n.result n.ensures.0 c.if-read-place.false _ c.has_address.ensures w.result _ c.if-not-has_address.false-raw w.ensures
+    answer_written a.t.now a.place a.ipv4.now a.ipv6.now a.space.now _ c.is_sound.ensures c.if-not-is_sound.false-raw n.result n.ensures.0 c.if-read-place.false _ c.has_address.ensures _ c.if-not-has_address.false-raw w.ensures
