@@ -10,20 +10,16 @@ ghost use Rattle.request.specs.Items.{group_types, group_at, Puts, Follows, Room
 ghost use Rattle.request.specs.Csids.{csid_count_fits, bare_csid, csid_words, csid_taken};
 
 use crate::items::Draft;
-use format::{causes, kinds, types, words};
+use format::{Row, causes, kinds, types, words};
 use fqcsid::FqCsid;
 use reading::{Fault, answer_at};
 
 // Writes the words of a row at index at.
-fn put_words(words: &mut [u64], at: usize, row: &[u64])
-    requires { at + length row.now ≤ length words.old }
+fn put_words(words: &mut [u64], at: usize, row: &Row)
+    requires { at + row_width ≤ length words.old }
     ensures { words.new ≡ put at row.now words.old }
 {
-    let mut i = 0;
-    while i < row.len() {
-        words[at + i] = row[i];
-        i += 1;
-    }
+    words[at..at + format::ROW].copy_from_slice(row);
 }
 
 // One more row, of a Create PDR or not.

@@ -1,20 +1,12 @@
--- `put_words` meets its contract. The invariant: the words are as at entry with the first i words of the row from `at` on. Assumes nothing.
-use mathlib.Core.Path.{refl}
-use native.Mathlib.Omega.{arith}
-use Rattle.octets.proofs.Put.{ahead_none, ahead_more, ahead_all}
+-- `request::row::put_words` meets its contract: the part that was lent came back as the row. Assumes nothing.
+use Rattle.std.proofs.Common.{List, ℕ, ◌+◌, ap, ◌∙◌, arith}
+use Rattle.octets.specs.Octets.{put}
+use Rattle.octets.proofs.Put.{put_lent}
 use Rattle.request.proofs.row.put_words.Goals as goal
 
-pub loop-i-init : goal.loop-i-init
-loop-i-init c = ahead_none refl c.requires
-
-pub bounds-words-at : goal.bounds-words-at
-bounds-words-at c = omega arith
-
-pub loop-i-preserved : goal.loop-i-preserved
-loop-i-preserved c = ahead_more c.loop-i.invariant c.loop-i-test.true refl
-
-pub shape_of-words : goal.shape_of-words
-shape_of-words c = c.loop-i.invariant.long
-
 pub returns : goal.returns
-returns c = ahead_all c.loop-i.invariant c.loop-i-test.false
+returns c =
+    let a = c.args in
+    let k = c.copy_from_slice in
+    put_lent a.at (a.at + 20) a.words.now k.new.self (omega arith) (omega arith) (omega (arith, k.ensures.len))
+    ∙ ap (λ (v : List ℕ). put a.at v a.words.now) k.ensures.after

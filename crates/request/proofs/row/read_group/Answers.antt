@@ -1,7 +1,6 @@
 -- `read_group` meets its contract. Assumes nothing.
 use mathlib.Core.Path.{refl}
 use native.Mathlib.Omega.{arith}
-use lib.ListN.{length-set}
 use Rattle.std.proofs.lemmas.Result.{err_from_is_err_and}
 use Rattle.request.proofs.GroupSteps.{tidy_start, group_refused, group_taken}
 use borrow.Author.Rules.{rules}
@@ -19,7 +18,7 @@ pub overflow_mul-d : goal.overflow_mul-d
 overflow_mul-d c = let h = c.requires.1 in omega arith
 
 pub put_words-requires : goal.put_words-requires
-put_words-requires c = let h = c.requires.1 in let w = c.read_group.ensures.tidy.wide in simp length-set (omega arith)
+put_words-requires c = let h = c.requires.1 in omega arith
 
 pub with_row-requires : goal.with_row-requires
 with_row-requires c = c.requires.2
