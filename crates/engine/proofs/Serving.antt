@@ -41,6 +41,7 @@ use Rattle.stages.specs.declared.Share.{Share}
 use Rattle.changes.specs.Answers.{Asked, Replies, verdict_on}
 use Rattle.changes.specs.Steps.{Counted}
 use Rattle.engine.specs.Steps.{Tallied, AskedList, Serves}
+use Rattle.engine.specs.Outcomes.{number_of, unserved_as}
 
 small_kind : (k : ℕ) → served k ≡ true → k < 255
 unfolding served
@@ -73,6 +74,13 @@ module _ {t : List ℕ} {r : Result Tally Broken} {w ips : List ℕ} (x : Examin
         address_long = k;
         address_count = ap₂ (λ (a b : ℕ). a - b) (addresses_is u (view_settings t) z) (ap (λ (y : Tally). y.taken) (numbers t r x.answer held e));
       }
+
+-- what a header is that is taken apart
+pub request_when : {r : Result Header Unserved} {h : Header} {kind seid : ℕ} → r ≡ Ok h → h ≡ Request kind seid → r ≡ Ok (Request kind seid)
+request_when e d = e ∙ ap Ok d
+
+pub sets_when : {r : Result Header Unserved} {h : Header} → r ≡ Ok h → h ≡ Sets → r ≡ Ok Sets
+sets_when e d = e ∙ ap Ok d
 
 -- what a request's header says
 module _ (msg : List ℕ) {h : Result Header Unserved} (is : opened h ≡ header_of msg) {kind seid : ℕ} (d : h ≡ Ok (Request kind seid)) where
@@ -149,6 +157,11 @@ module _ (t : List ℕ) (who : ℕ) (msg out : List ℕ) where
 
           pub serves_other : {o u p : ℕ} → h ≡ Err NotServed → (o ≡ 5) × (u ≡ 0) × (p ≡ 0) → Serves t who msg out o u p out t
           serves_other = serves_outcome (Err NotServed) 5 refl refl
+
+          pub serves_unserved : (v : Unserved) → h ≡ Err v → Serves t who msg out (number_of (unserved_as v)) 0 0 out t
+          serves_unserved TooLong d = serves_long d (refl, refl, refl)
+          serves_unserved Malformed d = serves_malformed d (refl, refl, refl)
+          serves_unserved NotServed d = serves_other d (refl, refl, refl)
 
           module _ (d : h ≡ Ok Sets) where
             is_sets : sets ≡ header_of msg

@@ -8,6 +8,7 @@ ghost use Rattle.unit.specs.Meaning.{settings_of};
 ghost use Rattle.changes.specs.Answers.{Asked, Live, Replies};
 ghost use Rattle.changes.specs.Steps.{Counted};
 ghost use Rattle.engine.specs.Steps.{Serves};
+ghost use Rattle.engine.specs.Outcomes.{outcome_of, used_of, place_of};
 ghost use Rattle.rules.specs.Layout.{view_settings};
 ghost use Rattle.rules.specs.Model.{is_peer, key_for};
 ghost use Rattle.areas.specs.Counted.{place_in};
@@ -15,10 +16,12 @@ ghost use Rattle.session.specs.Areas.{table_area};
 
 use changes::Replied;
 use format::{causes, kinds};
-use frame::header::{Header, Unserved};
+use frame::header::Header;
+use outcome::Outcome;
 use pool::Taken;
 use stages::Known;
 
+pub mod outcome;
 mod set_deletion;
 mod shares;
 
@@ -89,85 +92,41 @@ fn answer(
     }
 }
 
-// What the host gets: 01's outcome, how many octets of the reply space hold the reply, and the place in the message of a fault of stages 2
-// and 3, else 0.
-#[derive(Clone, Copy)]
-pub struct Served {
-    pub outcome: u32,
-    pub used: usize,
-    pub place: usize,
-}
-
-// An outcome without a reply.
-fn unserved(outcome: u32) -> Served
-    ensures { (result.outcome ≡ outcome) × (result.used ≡ 0) × (result.place ≡ 0) }
-{
-    Served {
-        outcome: outcome,
-        used: 0,
-        place: 0,
-    }
-}
-
 // A peer's request on any octets: the table, the message and the reply space.
-fn serve_of(t: &mut [u8], peer: u32, msg: &[u8], out: &mut [u8]) -> Served
+fn serve_of(t: &mut [u8], peer: u32, msg: &[u8], out: &mut [u8]) -> Result<Replied, Outcome>
     requires { T (is_peer peer) }
-    ensures { Serves t.old peer msg.now out.old result.outcome result.used result.place out.new t.new }
+    ensures { Serves t.old peer msg.now out.old (outcome_of result) (used_of result) (place_of result) out.new t.new }
 {
     let mut words = [0u64; pool::WORDS];
     let mut ips = [0u64; pool::ADDRESS_WORDS];
-    let Ok(held) = table::examine(t, &mut words, &mut ips) else {
-        return unserved(1);
-    };
+    let held = table::examine(t, &mut words, &mut ips)?;
     if out.len() < format::SPACE {
-        return unserved(2);
+        return Err(Outcome::LittleSpace);
     }
     let u = unit::read(t);
-    match frame::header::read_header(msg) {
-        Err(Unserved::TooLong) => unserved(3),
-        Err(Unserved::Malformed) => unserved(4),
-        Err(Unserved::NotServed) => unserved(5),
-        Ok(Header::Sets) => {
-            let replied = set_deletion::delete_list(t, u, peer, msg, out);
-            Served {
-                outcome: 0,
-                used: replied.used,
-                place: replied.place,
-            }
-        }
-        Ok(Header::Request(kind, seid)) => {
-            let share = shares::share(t, u, peer, held.one, held.two, held.first);
-            let free = u.addresses as usize - held.taken;
-            let known = Known {
-                u: u,
-                share: share,
-                addresses: free,
-                kind: kind,
-                seid: seid,
-            };
-            let replied = answer(
-                t,
-                known,
-                Taken { words: words },
-                TakenAddresses { words: ips },
-                msg,
-                out,
-            );
-            Served {
-                outcome: 0,
-                used: replied.used,
-                place: replied.place,
-            }
-        }
-    }
+    let header = frame::header::read_header(msg)?;
+    let Header::Request(kind, seid) = header else {
+        return Ok(set_deletion::delete_list(t, u, peer, msg, out));
+    };
+    let share = shares::share(t, u, peer, held.one, held.two, held.first);
+    let known = Known {
+        u,
+        share,
+        addresses: u.addresses as usize - held.taken,
+        kind,
+        seid,
+    };
+    let taken = Taken { words };
+    let addresses = TakenAddresses { words: ips };
+    Ok(answer(t, known, taken, addresses, msg, out))
 }
 
-// One request on any octets, under any number as its peer's: 7 for a number that is no peer's, before the table is looked at (02 (xiv)).
-pub fn serve(t: &mut [u8], peer: u32, msg: &[u8], out: &mut [u8]) -> Served
-    ensures { Serves t.old peer msg.now out.old result.outcome result.used result.place out.new t.new }
+// One request on any octets, under any number as its peer's: outcome 7 for a number that is no peer's, before the table is looked at (02 (xiv)).
+pub fn serve(t: &mut [u8], peer: u32, msg: &[u8], out: &mut [u8]) -> Result<Replied, Outcome>
+    ensures { Serves t.old peer msg.now out.old (outcome_of result) (used_of result) (place_of result) out.new t.new }
 {
     if !unit::is_peer(peer) {
-        return unserved(7);
+        return Err(Outcome::NoPeer);
     }
     serve_of(t, peer, msg, out)
 }

@@ -16,7 +16,8 @@
 
 ghost use Rattle.std.specs.Prelude.{◌≡◌, ◌+◌, ◌≤◌, length, IfOk};
 
-use engine::Served;
+use changes::Replied;
+use engine::outcome::Outcome;
 use std::io;
 use table::{Broken, Refused};
 use unit::Peer;
@@ -128,11 +129,19 @@ fn remake(
 }
 
 // What a request got.
-fn answer(rt: &impl Print, t: &[u8], served: Served, reply: &[u8]) -> io::Result<()> {
-    outcome(rt, t, "outcome ", served.outcome as u64)?;
-    if served.outcome == 0 {
-        print!(rt; " place {} reply ", served.place)?;
-        output::hex(rt, reply, served.used)?;
+fn answer(
+    rt: &impl Print,
+    t: &[u8],
+    got: Result<Replied, Outcome>,
+    reply: &[u8],
+) -> io::Result<()> {
+    match got {
+        Err(number) => outcome(rt, t, "outcome ", u64::from(u32::from(number)))?,
+        Ok(replied) => {
+            outcome(rt, t, "outcome ", 0)?;
+            print!(rt; " place {} reply ", replied.place)?;
+            output::hex(rt, reply, replied.used)?;
+        }
     }
     println!(rt)
 }
@@ -140,8 +149,8 @@ fn answer(rt: &impl Print, t: &[u8], served: Served, reply: &[u8]) -> io::Result
 // One request of a peer on the table.
 fn request(rt: &impl Print, t: &mut [u8], peer: u32, msg: &[u8]) -> io::Result<()> {
     let mut reply = [0u8; format::SPACE];
-    let served = engine::serve(t, peer, msg, &mut reply);
-    answer(rt, t, served, &reply)
+    let got = engine::serve(t, peer, msg, &mut reply);
+    answer(rt, t, got, &reply)
 }
 
 // One request of a peer on the table, with the peer's store before it.
@@ -153,8 +162,8 @@ fn request_once(
     msg: &[u8],
 ) -> io::Result<()> {
     let mut reply = [0u8; format::SPACE];
-    let served = repeats::serve_once(t, peer, store, msg, &mut reply);
-    answer(rt, t, served, &reply)
+    let got = repeats::serve_once(t, peer, store, msg, &mut reply);
+    answer(rt, t, got, &reply)
 }
 
 // The peer's store is lent; with a number that is no peer's either does, for neither is looked at.

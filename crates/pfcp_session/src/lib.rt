@@ -8,9 +8,12 @@ ghost use Rattle.rules.specs.Sound.{length_for};
 ghost use Rattle.unit.specs.Meaning.{settings_given};
 ghost use Rattle.table.specs.Answers.{count_told};
 ghost use Rattle.rules.specs.Store.{store_length};
+ghost use Rattle.engine.specs.Outcomes as answered;
 ghost use Rattle.finding.specs.Answers.{outcome_of};
 ghost use Rattle.pfcp_session.specs.Calls.{store_call, once_call, CountFits, count_answer, make_call, count_call, address_count_call, request_call, restoration_call, session_count_call, find_session_call, find_teid_call, peer_count_call, counts_call};
 
+use changes::Replied;
+use engine::outcome::Outcome;
 use finding::Untold;
 use table::Broken;
 use unit::Peer;
@@ -37,6 +40,9 @@ fn outcome<T>(told: &Result<T, Untold>) -> u32
         Err(untold) => untold.outcome(),
     }
 }
+
+// The outcome of a request that has a reply.
+const REPLIED: u32 = 0;
 
 // How many octets a table with room for so many sessions has; 0 for a limit that is not allowed: 2 to 256 are.
 #[unsafe(no_mangle)]
@@ -135,6 +141,26 @@ pub extern "C" fn pfcp_free_addresses(table: &[u8], count: &mut u32) -> u32
     tell(answer, count)
 }
 
+// An answer for the host: outcome 0 with the reply's length and the place of a fault, or the outcome's number and zeros.
+fn tell_answer(answer: Result<Replied, Outcome>, used: &mut usize, place: &mut usize) -> u32
+    ensures outcome { result ≡ answered.outcome_of answer }
+    ensures used { used.new ≡ answered.used_of answer }
+    ensures place { place.new ≡ answered.place_of answer }
+{
+    match answer {
+        Ok(replied) => {
+            *used = replied.used;
+            *place = replied.place;
+            REPLIED
+        }
+        Err(outcome) => {
+            *used = 0;
+            *place = 0;
+            u32::from(outcome)
+        }
+    }
+}
+
 // Handles one request of a peer, 1 or 2: 01's outcome; 7 for any other number, before anything else. With outcome 0 the reply stands at the
 // front of the reply space, and used is its length; any other outcome writes nothing but 0 there. The place is that of a fault found in
 // stages 2 and 3: the index in the message, from 0, of the type's first octet of the element at fault, or of the group that lacks a member or
@@ -151,10 +177,8 @@ pub extern "C" fn pfcp_request(
     ensures { record { outcome = result; used = used.new; place = place.new; space = reply.new; table = table.new }
         ≡ request_call table.old peer message.now reply.old }
 {
-    let served = engine::serve(table, peer, message, reply);
-    *used = served.used;
-    *place = served.place;
-    served.outcome
+    let answer = engine::serve(table, peer, message, reply);
+    tell_answer(answer, used, place)
 }
 
 // How many octets a store of repeated requests has; each peer has one.
@@ -194,9 +218,7 @@ pub extern "C" fn pfcp_request_once(
         ≡ once_call table.old peer store.old message.now reply.old }
 {
     let told = repeats::serve_once(table, peer, store, message, reply);
-    *used = told.used;
-    *place = told.place;
-    told.outcome
+    tell_answer(told, used, place)
 }
 
 // Writes the restoration request of the session at a place, from 0, with the control plane's addresses (4 octets or none, 16 octets or

@@ -24,6 +24,11 @@ use Rattle.store.proofs.EntryLaws.{is_allowed_lem}
 use Rattle.store.proofs.HeldLaws.{stored_short}
 use Rattle.repeats.specs.Steps.{resting_outcome, Resting, silent, repeated, dropped, renewed}
 use Rattle.repeats.proofs.ServedLaws.{resting_is, other_outcome, nothing_written, Replied, replied}
+use Rattle.std.specs.Prelude.{Result}
+use Rattle.changes.specs.declared.Replied as code
+use Rattle.engine.specs.Outcomes.{number_of, outcome_of, used_of, place_of}
+use Rattle.engine.specs.declared.outcome.Outcome.{Outcome}
+use Rattle.engine.specs.declared.outcome.Outcome.TheVariants.{Broken, LittleSpace, TooLong, Malformed, NotServed, Old, NoPeer}
 
 -- a call that leaves table and store
 abbrev pub stays : List ℕ → List ℕ → Resting → Once
@@ -72,6 +77,20 @@ module _ (t space : List ℕ) where
     drop_some n u p h e = rw (← o_is, eq-eqb o 0 h) (λ i. record { outcome = e.0 i; used = e.1 i; place = e.2 i; space = space })
 
 -- ---- what the engine leaves
+
+pub nonzero : (o : Outcome) → number_of o ≡ 0 → ⊥
+nonzero Broken e = omega (arith, e)
+nonzero LittleSpace e = omega (arith, e)
+nonzero TooLong e = omega (arith, e)
+nonzero Malformed e = omega (arith, e)
+nonzero NotServed e = omega (arith, e)
+nonzero Old e = omega (arith, e)
+nonzero NoPeer e = omega (arith, e)
+
+-- of an answer that is taken apart
+pub serves_as : (t : List ℕ) (who : ℕ) (msg out : List ℕ) {r x : Result code.Replied Outcome} {out' t' : List ℕ} → r ≡ x → Serves t who msg out (outcome_of r) (used_of r) (place_of r) out' t'
+    → Serves t who msg out (outcome_of x) (used_of x) (place_of x) out' t'
+serves_as t who msg out {out' = out'} {t' = t'} e s = subst (λ (y : Result code.Replied Outcome). Serves t who msg out (outcome_of y) (used_of y) (place_of y) out' t') e s
 
 module _ (t : List ℕ) (who : ℕ) (store msg out : List ℕ) (o u p : ℕ) (out' t' : List ℕ) (s : Serves t who msg out o u p out' t') where
   outcome_is : (serve t who msg out).outcome ≡ o

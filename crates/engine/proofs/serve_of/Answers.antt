@@ -1,61 +1,60 @@
 -- `engine::serve_of` meets its contract.
 -- Assumes nothing.
-use mathlib.Core.Path.{ap, ◌∙◌}
+use mathlib.Core.Path.{refl}
 use native.Mathlib.Omega.{arith}
-use Rattle.std.specs.Prelude.{Ok, Err}
 use lib.Dec.{T}
+use Rattle.std.proofs.lemmas.Result.{err_from_is_err_and}
 use Rattle.octets.specs.Octets.{octets}
 use Rattle.octets.proofs.Digits.{octets_known}
 use Rattle.table.proofs.Examining.{count_long, addresses_less}
-use Rattle.engine.proofs.Serving.{serves_broken, serves_small, serves_long, serves_malformed, serves_other, asks_list, serves_list, asks, counts, kind_is_lem, seid_is, serves_answer, tallies}
+use Rattle.engine.proofs.Serving.{serves_broken, serves_small, serves_unserved, sets_when, asks_list, serves_list, asks, counts, kind_is_lem, seid_is, serves_answer, tallies, request_when}
 use borrow.Author.Rules.{rules}
 use Rattle.engine.proofs.serve_of.Goals as goal
 
-pub returns-in_default : goal.returns-in_default
-returns-in_default c = search serves_broken
+pub returns-in_err-held : goal.returns-in_err-held
+returns-in_err-held c =
+    let p = err_from_is_err_and c.from_residual.result c.from_residual.ensures.1 in
+    rw (p.1, p.2) (serves_broken _ _ _ _ c.requires c.examine.ensures c.in_err-held.was (refl, refl, refl))
 
 pub returns-then-out-lt-SPACE : goal.returns-then-out-lt-SPACE
-returns-then-out-lt-SPACE c = search serves_small
+returns-then-out-lt-SPACE c = serves_small _ _ _ _ c.requires c.examine.ensures c.in_ok-held.was c.if-out-lt-SPACE.true (refl, refl, refl)
 
 pub read-u-requires : goal.read-u-requires
-read-u-requires c = omega (arith, count_long _ _ c.examine.ensures.answer _ c.in-Ok.is)
+read-u-requires c = omega (arith, count_long _ _ c.examine.ensures.answer _ c.in_ok-held.was)
 
-pub returns-in-Err-TooLong : goal.returns-in-Err-TooLong
-returns-in-Err-TooLong c = serves_long _ _ _ _ c.requires c.examine.ensures c.in-Ok.is c.if-out-lt-SPACE.false c.read_header.ensures (c.in-Err-TooLong.is ∙ ap Err c.in-Err-TooLong.field-0-is) c.unserved-in-Err-TooLong.ensures
+pub returns-in_err-header : goal.returns-in_err-header
+returns-in_err-header c =
+    let p = err_from_is_err_and c.from_residual-in_err-header.result c.from_residual-in_err-header.ensures.1 in
+    rw (p.1, p.2) (serves_unserved _ _ _ _ c.requires c.examine.ensures c.in_ok-held.was c.if-out-lt-SPACE.false c.read_header.ensures _ c.in_err-header.was)
 
-pub returns-in-Err-Malformed : goal.returns-in-Err-Malformed
-returns-in-Err-Malformed c = serves_malformed _ _ _ _ c.requires c.examine.ensures c.in-Ok.is c.if-out-lt-SPACE.false c.read_header.ensures (c.in-Err-Malformed.is ∙ ap Err c.in-Err-Malformed.field-0-is) c.unserved-in-Err-Malformed.ensures
+pub delete_list-requires : goal.delete_list-requires
+delete_list-requires c =
+    (asks_list _ _ _ _ c.requires c.examine.ensures c.in_ok-held.was c.if-out-lt-SPACE.false c.read_header.ensures (sets_when c.in_ok-header.was c.in_default.is), c.read-u.ensures)
 
-pub returns-in-Err-NotServed : goal.returns-in-Err-NotServed
-returns-in-Err-NotServed c = serves_other _ _ _ _ c.requires c.examine.ensures c.in-Ok.is c.if-out-lt-SPACE.false c.read_header.ensures (c.in-Err-NotServed.is ∙ ap Err c.in-Err-NotServed.field-0-is) c.unserved-in-Err-NotServed.ensures
-
-pub delete_list-replied-requires : goal.delete_list-replied-requires
-delete_list-replied-requires c = (asks_list _ _ _ _ c.requires c.examine.ensures c.in-Ok.is c.if-out-lt-SPACE.false c.read_header.ensures (c.in-Ok-Sets.is ∙ ap Ok c.in-Ok-Sets.field-0-is), c.read-u.ensures)
-
-pub returns-in-Ok-Sets : goal.returns-in-Ok-Sets
-returns-in-Ok-Sets c = serves_list _ _ _ _ c.requires c.examine.ensures c.in-Ok.is c.if-out-lt-SPACE.false c.read_header.ensures (c.in-Ok-Sets.is ∙ ap Ok c.in-Ok-Sets.field-0-is) c.delete_list-replied.ensures
+pub returns-in_default : goal.returns-in_default
+returns-in_default c =
+    serves_list _ _ _ _ c.requires c.examine.ensures c.in_ok-held.was c.if-out-lt-SPACE.false c.read_header.ensures (sets_when c.in_ok-header.was c.in_default.is) c.delete_list.ensures
 
 pub share-share-requires : goal.share-share-requires
-share-share-requires c = (search rules, search tallies)
+share-share-requires c = (search rules, tallies c.examine.ensures c.in_ok-held.was c.read-u.ensures)
 
-pub overflow_sub-free : goal.overflow_sub-free
-overflow_sub-free c = search addresses_less
+pub overflow_sub-known : goal.overflow_sub-known
+overflow_sub-known c = addresses_less _ _ c.examine.ensures.answer _ c.in_ok-held.was _ c.read-u.ensures
 
-pub answer-replied-requires : goal.answer-replied-requires
-answer-replied-requires c =
-    let s = c in
+pub answer-requires : goal.answer-requires
+answer-requires c =
     let o : T (octets c.args.msg.now) = octets_known c.args.msg.now (λ i. (c.type_inv.msg i).fits) in
     let x = c.examine.ensures in
-    let e = c.in-Ok.is in
-    let l = c.if-out-lt-SPACE.false in
+    let e = c.in_ok-held.was in
     let h = c.read_header.ensures in
-    let d = (c.in-Ok-Request.is ∙ ap Ok c.in-Ok-Request.field-0-is) in
+    let d = request_when c.in_ok-header.was c.in-Request.is in
     let own = c.share-share.ensures in (
-      asks _ _ _ _ c.requires x e l h d own.0 o,
+      asks _ _ _ _ c.requires x e c.if-out-lt-SPACE.false h d own.0 o,
       counts x e c.read-u.ensures (search rules) (search rules) own,
       kind_is_lem c.args.msg.now h d,
       seid_is c.args.msg.now h d,
     )
 
-pub returns-in-Ok-Request : goal.returns-in-Ok-Request
-returns-in-Ok-Request c = serves_answer _ _ _ _ c.requires c.examine.ensures c.in-Ok.is c.if-out-lt-SPACE.false c.read_header.ensures (c.in-Ok-Request.is ∙ ap Ok c.in-Ok-Request.field-0-is) c.share-share.ensures.0 c.answer-replied.ensures
+pub returns : goal.returns
+returns c =
+    serves_answer _ _ _ _ c.requires c.examine.ensures c.in_ok-held.was c.if-out-lt-SPACE.false c.read_header.ensures (request_when c.in_ok-header.was c.in-Request.is) c.share-share.ensures.0 c.answer.ensures

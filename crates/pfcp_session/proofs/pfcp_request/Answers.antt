@@ -4,4 +4,4 @@ use Rattle.pfcp_session.proofs.CallLaws.{call_request}
 use Rattle.pfcp_session.proofs.pfcp_request.Goals as goal
 
 pub returns : goal.returns
-returns c = call_request c.serve-served.ensures
+returns c = rw (c.tell_answer.ensures.outcome, c.tell_answer.ensures.used, c.tell_answer.ensures.place) (call_request c.serve-answer.ensures)

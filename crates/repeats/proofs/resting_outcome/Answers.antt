@@ -10,5 +10,5 @@ returns-then-not-is_sound c = resting_broken _ _ (sym c.is_sound.ensures ∙ not
 pub returns-then-out-lt-SPACE : goal.returns-then-out-lt-SPACE
 returns-then-out-lt-SPACE c = resting_small _ _ (sym c.is_sound.ensures ∙ not-false _ c.if-not-is_sound.false-raw) c.if-out-lt-SPACE.true
 
-pub returns : goal.returns
-returns c = resting_none _ _ (sym c.is_sound.ensures ∙ not-false _ c.if-not-is_sound.false-raw) c.if-out-lt-SPACE.false
+pub returns-else-out-lt-SPACE : goal.returns-else-out-lt-SPACE
+returns-else-out-lt-SPACE c = resting_none _ _ (sym c.is_sound.ensures ∙ not-false _ c.if-not-is_sound.false-raw) c.if-out-lt-SPACE.false

@@ -1,12 +1,12 @@
 -- `repeats::serve_peer` meets its contract: each way is a case of `request_once`. Assumes nothing.
-use mathlib.Core.Path.{sym, ◌∙◌}
+use mathlib.Core.Path.{refl, sym, ◌∙◌}
 use borrow.Author.Tests.{not-true, not-false}
 use Rattle.octets.proofs.Tests.{of_true}
 use Rattle.repeats.proofs.OnceLaws.{once_broken, once_other, reply_short, once_again, once_dropped, once_renewed}
 use Rattle.repeats.proofs.serve_peer.Goals as goal
 
 pub returns-then-not-is_sound : goal.returns-then-not-is_sound
-returns-then-not-is_sound c = once_broken _ _ c.requires _ _ _ _ _ _ _ c.is_sound.ensures (not-true _ c.if-not-is_sound.true-raw) c.unanswered.ensures
+returns-then-not-is_sound c = once_broken _ _ c.requires _ _ _ _ _ _ _ c.is_sound.ensures (not-true _ c.if-not-is_sound.true-raw) (refl, refl, refl)
 
 pub returns-then-not-is_request : goal.returns-then-not-is_request
 returns-then-not-is_request c = once_other c.args.t.now c.args.peer c.requires c.args.store.now c.args.msg.now c.args.out.now _ c.is_sound.ensures (not-false _ c.if-not-is_sound.false-raw) _ c.is_request.ensures (not-true _ c.if-not-is_request.true-raw) _ _ _ _ _ c.serve.ensures
