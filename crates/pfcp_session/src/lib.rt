@@ -31,6 +31,9 @@ const COUNTED: u32 = 0;
 
 const BROKEN: u32 = 1;
 
+// The outcome of a request that has a reply.
+const REPLIED: u32 = 0;
+
 // The outcome of what a table told: 0, or why it told nothing.
 fn outcome<T>(told: &Result<T, Untold>) -> u32
     ensures { MatchResult told.now (λ x. result ≡ 0) (λ untold. result ≡ outcome_of untold) }
@@ -40,9 +43,6 @@ fn outcome<T>(told: &Result<T, Untold>) -> u32
         Err(untold) => untold.outcome(),
     }
 }
-
-// The outcome of a request that has a reply.
-const REPLIED: u32 = 0;
 
 // How many octets a table with room for so many sessions has; 0 for a limit that is not allowed: 2 to 256 are.
 #[unsafe(no_mangle)]
