@@ -18,6 +18,7 @@ pub mod row;
 pub mod session;
 
 use format::{Row, causes, kinds, types};
+use row::Ids;
 use unit::Settings;
 
 // What the peer of a request has at entry: how many TEIDs it may still take, and how many sessions it has.
@@ -54,20 +55,18 @@ pub struct Told {
 #[tactic(auto, unfolding(crate::specs::RowRules::breaks_row, crate::specs::RowRules::some_row))]
 fn breaks_rows(
     rows: &[Row],
-    pdrs: &[u64],
-    endpoints: &[u64],
-    gone: &[u64],
+    ids: &Ids,
     u: Settings,
     taken: &[u64],
     addresses: &[u64],
     restoring: bool,
 ) -> bool
     requires { (u.size ≤ 64 * length taken.now) × (u.addresses ≤ 64 * length addresses.now) }
-    ensures { result ≡ some_row (breaks_row (held_in (settings_of u) taken.now) (marked_address (settings_of u) addresses.now) (settings_of u) restoring pdrs.now endpoints.now gone.now rows.now) rows.now }
+    ensures { result ≡ some_row (breaks_row (held_in (settings_of u) taken.now) (marked_address (settings_of u) addresses.now) (settings_of u) restoring ids.now.pdrs.now ids.now.endpoints.now ids.now.gone.now rows.now) rows.now }
 {
     let mut rest = rows;
     while let Some((row, later)) = rest.split_first() {
-        if row::breaks_id(row, rows, pdrs, endpoints, gone)
+        if row::breaks_id(row, rows, ids)
             || row::breaks_fteid(row, u, taken)
             || row::breaks_address(row, u, restoring, addresses)
             || plan::disagrees(row, later)
@@ -102,16 +101,12 @@ pub fn breaks_rule(
         1,
         &mut endpoints,
     );
-    breaks_rows(
-        rows,
-        &pdrs[..k],
-        &endpoints[..j],
+    let ids = Ids {
+        pdrs: &pdrs[..k],
+        endpoints: &endpoints[..j],
         gone,
-        u,
-        taken,
-        addresses,
-        restoring,
-    )
+    };
+    breaks_rows(rows, &ids, u, taken, addresses, restoring)
 }
 
 // Would more records result than there is room for? Live ones less those removed, plus those created.

@@ -10,33 +10,41 @@ ghost use Rattle.stages.specs.RowRules.{creates_live, names_dead, updates_gone, 
 use format::{Row, types, words};
 use unit::Settings;
 
+// The IDs of a session at entry: of its live PDRs and endpoints, and of those of its PDRs that the request removes.
+#[derive(Clone, Copy)]
+pub struct Ids<'a> {
+    pub pdrs: &'a [u64],
+    pub endpoints: &'a [u64],
+    pub gone: &'a [u64],
+}
+
 // A created ID live at entry.
-fn created_live(row: &Row, pdrs: &[u64], endpoints: &[u64]) -> bool
-    ensures { result ≡ creates_live pdrs.now endpoints.now row.now }
+fn created_live(row: &Row, ids: &Ids) -> bool
+    ensures { result ≡ creates_live ids.now.pdrs.now ids.now.endpoints.now row.now }
 {
     match row[words::TAG] {
-        types::CREATE_PDR => octets::is_in(row[words::PDR_ID], pdrs),
-        types::CREATE_ENDPOINT => octets::is_in(row[words::ENDPOINT_ID], endpoints),
+        types::CREATE_PDR => octets::is_in(row[words::PDR_ID], ids.pdrs),
+        types::CREATE_ENDPOINT => octets::is_in(row[words::ENDPOINT_ID], ids.endpoints),
         _ => false,
     }
 }
 
 // A removed or updated ID not live at entry.
-fn absent_id(row: &Row, pdrs: &[u64], endpoints: &[u64]) -> bool
-    ensures { result ≡ names_dead pdrs.now endpoints.now row.now }
+fn absent_id(row: &Row, ids: &Ids) -> bool
+    ensures { result ≡ names_dead ids.now.pdrs.now ids.now.endpoints.now row.now }
 {
     match row[words::TAG] {
-        types::REMOVE_PDR | types::UPDATE_PDR => !octets::is_in(row[words::PDR_ID], pdrs),
-        types::REMOVE_ENDPOINT => !octets::is_in(row[words::ENDPOINT_ID], endpoints),
+        types::REMOVE_PDR | types::UPDATE_PDR => !octets::is_in(row[words::PDR_ID], ids.pdrs),
+        types::REMOVE_ENDPOINT => !octets::is_in(row[words::ENDPOINT_ID], ids.endpoints),
         _ => false,
     }
 }
 
 // An update of a removed PDR.
-fn updates_removed(row: &Row, gone: &[u64]) -> bool
-    ensures { result ≡ updates_gone gone.now row.now }
+fn updates_removed(row: &Row, ids: &Ids) -> bool
+    ensures { result ≡ updates_gone ids.now.gone.now row.now }
 {
-    row[words::TAG] == types::UPDATE_PDR && octets::is_in(row[words::PDR_ID], gone)
+    row[words::TAG] == types::UPDATE_PDR && octets::is_in(row[words::PDR_ID], ids.gone)
 }
 
 // F-TEID and endpoint ID in one PDI.
@@ -51,26 +59,26 @@ fn names_both(row: &Row) -> bool
 
 // An endpoint ID not there afterwards: neither created nor live and not removed.
 #[tactic(auto, using(crate::proofs::IdLaws::absent_row), unfolding(octets::specs::Rows::has_tag))]
-fn names_absent(row: &Row, rows: &[Row], endpoints: &[u64]) -> bool
-    ensures { result ≡ pdi_names_absent endpoints.now rows.now row.now }
+fn names_absent(row: &Row, rows: &[Row], ids: &Ids) -> bool
+    ensures { result ≡ pdi_names_absent ids.now.endpoints.now rows.now row.now }
 {
     let id = row[words::ENDPOINT_ID];
     row[words::TAG] == types::CREATE_PDR
         && row[words::HAS_ENDPOINT_ID] == 1
         && !plan::named(rows, types::CREATE_ENDPOINT, words::ENDPOINT_ID, id)
         && (plan::named(rows, types::REMOVE_ENDPOINT, words::ENDPOINT_ID, id)
-            || !octets::is_in(id, endpoints))
+            || !octets::is_in(id, ids.endpoints))
 }
 
 // The rules on a row's IDs.
-pub fn breaks_id(row: &Row, rows: &[Row], pdrs: &[u64], endpoints: &[u64], gone: &[u64]) -> bool
-    ensures { result ≡ breaks_id pdrs.now endpoints.now gone.now rows.now row.now }
+pub fn breaks_id(row: &Row, rows: &[Row], ids: &Ids) -> bool
+    ensures { result ≡ breaks_id ids.now.pdrs.now ids.now.endpoints.now ids.now.gone.now rows.now row.now }
 {
-    created_live(row, pdrs, endpoints)
-        || absent_id(row, pdrs, endpoints)
-        || updates_removed(row, gone)
+    created_live(row, ids)
+        || absent_id(row, ids)
+        || updates_removed(row, ids)
         || names_both(row)
-        || names_absent(row, rows, endpoints)
+        || names_absent(row, rows, ids)
 }
 
 // The rules on a row's F-TEID. Only a TEID of the pool is looked up in the map.

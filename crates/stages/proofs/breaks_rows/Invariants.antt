@@ -8,7 +8,7 @@ use Rattle.stages.proofs.breaks_rows.Given as goal
 abbrev pub invariant-loop-row : goal.invariant-loop-row
 invariant-loop-row l =
     let s = settings_of l.u in
-    let breaks = breaks_row (held_in s l.taken) (marked_address s l.addresses) s l.restoring l.pdrs l.endpoints l.gone l.rows in
+    let breaks = breaks_row (held_in s l.taken) (marked_address s l.addresses) s l.restoring l.ids.pdrs.now l.ids.endpoints.now l.ids.gone.now l.rows in
     some_row breaks l.rest ≡ some_row breaks l.rows
 
 abbrev pub decreases-loop-row : goal.decreases-loop-row
