@@ -3,7 +3,7 @@ use mathlib.Core.Path.{◌≡◌, refl, sym, ap, ◌∙◌}
 use Prim.Native.Nat.{ℕ, zero, suc, ◌+◌, ◌-◌, ◌*◌, ◌/◌, ◌%◌, ◌≤◌, ◌<◌}
 use native.Mathlib.Omega.{arith}
 use mathlib.Core.Bool.{Bool, true, false, ◌&&◌, ◌||◌}
-use mathlib.Core.List.{List, ◌∷◌, map}
+use mathlib.Core.List.{List, [], ◌∷◌, map}
 use lib.ListN.{length, take, drop, get_or, length-drop}
 use lib.Dec.{T, eqb}
 use borrow.Author.Tests.{eq-eqb, ne_eqb}
@@ -18,39 +18,20 @@ use Rattle.rules.specs.Elements as rules
 use Rattle.rules.specs.Elements.{address_length}
 use Rattle.rules.specs.Apply.{covers, covers_session}
 use Rattle.sets.specs.Listed.{listed_address_octets, csid_count, listed_in}
+use Rattle.std.specs.Simd.{first_chunks}
+use Rattle.plan.proofs.ChainLaws.{chunks_slices}
 
 -- ---- one of the CSIDs
 
 -- what is left to look at gives the same answer
-pub record Looks (csid m : ℕ) (cs : List ℕ) (left : ℕ) (rest : List ℕ) : Type 0 where
-  pub room : 2 * left ≤ length rest
-  pub same : member csid (rules.csids_read m cs) ≡ member csid (rules.csids_read left rest)
+member_any : (x : ℕ) (xs : List (List ℕ)) → member x (map number xs) ≡ any (λ (y : List ℕ). eqb x (number y)) xs
+unfolding member any
+member_any x [] = refl
+member_any x (y ∷ ys) = ap (λ (b : Bool). eqb x (number y) || b) (member_any x ys)
 
-next_csid : (n : ℕ) (xs : List ℕ) → 0 < n → rules.csids_read n xs ≡ number (part 0 2 xs) ∷ rules.csids_read (n - 1) (drop 2 xs)
-unfolding rules.csids_read slices
-next_csid zero xs h = absurd (omega arith)
-next_csid (suc n) xs h = let e : suc n - 1 ≡ n = omega arith in ap (λ (k : ℕ). number (take 2 xs) ∷ map number (slices 2 k (drop 2 xs))) (sym e)
-
-pub looks_none : (csid m : ℕ) (cs : List ℕ) → 2 * m ≤ length cs → Looks csid m cs m cs
-looks_none csid m cs h = record { room = h; same = refl }
-
-module _ {csid m : ℕ} {cs : List ℕ} {left : ℕ} {rest : List ℕ} (l : Looks csid m cs left rest) where
-  pub looks_found : 0 < left → (r : ℕ) → r ≡ number (part 0 2 rest) → r ≡ csid → true ≡ member csid (rules.csids_read m cs)
-  unfolding member
-  looks_found h r e q = sym (l.same ∙ ap (member csid) (next_csid left rest h) ∙ rw (eq-eqb csid (number (part 0 2 rest)) (sym q ∙ e)))
-
-  pub looks_more : 0 < left → (r : ℕ) → r ≡ number (part 0 2 rest) → (r ≡ csid → ⊥) → Looks csid m cs (left - 1) (take (length rest - 2) (drop 2 rest))
-  unfolding member
-  looks_more h r e q =
-      let room' = l.room in
-      record {
-        room = rw (part_from 2 rest, length-drop) (omega arith);
-        same = l.same ∙ ap (member csid) (next_csid left rest h) ∙ rw (ne_eqb csid (number (part 0 2 rest)) (λ z. q (e ∙ sym z)), part_from);
-      }
-
-  pub looks_end : left ≤ 0 → false ≡ member csid (rules.csids_read m cs)
-  unfolding member rules.csids_read slices
-  looks_end h = let e : left ≡ 0 = omega arith in sym (l.same ∙ rw e)
+pub member_pairs : (csid m : ℕ) (cs : List ℕ) → any (λ (y : List ℕ). eqb csid (number y)) (first_chunks 2 m cs) ≡ member csid (rules.csids_read m cs)
+unfolding rules.csids_read
+member_pairs csid m cs = rw chunks_slices (sym (member_any csid (slices 2 m cs)))
 
 -- ---- one of a session's
 
@@ -94,34 +75,12 @@ module _ (v xs : List ℕ) (long : length xs ≡ csid_width) (o : T (octets xs))
 
 -- ---- those of a session
 
-pub record Covers (v slot : List ℕ) (left : ℕ) (rest : List ℕ) : Type 0 where
-  pub room : left * csid_width ≤ length rest
-  pub same : covers_session (view_session slot) (listed_in v) ≡ any (covers (listed_in v)) (map view_csid (slices csid_width left rest))
+any_map : {A : Type 0} (p : A → Bool) (f : List ℕ → A) (xs : List (List ℕ)) → any (λ (x : List ℕ). p (f x)) xs ≡ any p (map f xs)
+unfolding any
+any_map p f [] = refl
+any_map p f (x ∷ xs) = ap (λ (b : Bool). p (f x) || b) (any_map p f xs)
 
-next_slot : (n : ℕ) (xs : List ℕ) → 0 < n → slices csid_width n xs ≡ take csid_width xs ∷ slices csid_width (n - 1) (drop csid_width xs)
-unfolding slices
-next_slot zero xs h = absurd (omega arith)
-next_slot (suc n) xs h = let e : suc n - 1 ≡ n = omega arith in ap (λ (k : ℕ). take csid_width xs ∷ slices csid_width k (drop csid_width xs)) (sym e)
-
-pub covers_none : (v slot : List ℕ) → length slot ≡ session_width → octet_at slot csid_count_at ≤ 6 → Covers v slot (get_or slot csid_count_at 0) (take (length slot - csids_at) (drop csids_at slot))
+pub covers_any : (v slot : List ℕ) (n : ℕ) → n ≡ get_or slot csid_count_at 0
+    → any (λ (c : List ℕ). covers (listed_in v) (view_csid c)) (first_chunks csid_width n (take (length slot - csids_at) (drop csids_at slot))) ≡ covers_session (view_session slot) (listed_in v)
 unfolding covers_session view_session view_area octet_at
-covers_none v slot long few = record { room = rw (part_from csids_at slot, length-drop) (omega arith); same = rw part_from }
-
-module _ {v slot : List ℕ} {left : ℕ} {rest : List ℕ} (l : Covers v slot left rest) (h : 0 < left) where
-  pub covers_room : csid_width ≤ length rest
-  covers_room = let r = l.room in omega arith
-
-  by_first : covers_session (view_session slot) (listed_in v) ≡ (covers (listed_in v) (view_csid (take csid_width rest)) || any (covers (listed_in v)) (map view_csid (slices csid_width (left - 1) (drop csid_width rest))))
-  unfolding any
-  by_first = l.same ∙ ap (λ (ys : List (List ℕ)). any (covers (listed_in v)) (map view_csid ys)) (next_slot left rest h)
-
-  module _ {b : Bool} (is : b ≡ covers (listed_in v) (view_csid (take csid_width rest))) where
-    pub covers_found : b ≡ true → true ≡ covers_session (view_session slot) (listed_in v)
-    covers_found e = sym (by_first ∙ rw (← is, e))
-
-    pub covers_more : b ≡ false → Covers v slot (left - 1) (take (length rest - csid_width) (drop csid_width rest))
-    covers_more e = record { room = rw (part_from csid_width rest, length-drop) (let r = l.room in omega arith); same = by_first ∙ rw (← is, e, part_from) }
-
-pub covers_end : {v slot : List ℕ} {left : ℕ} {rest : List ℕ} → Covers v slot left rest → left ≤ 0 → false ≡ covers_session (view_session slot) (listed_in v)
-unfolding slices any
-covers_end {left = left} l h = let e : left ≡ 0 = omega arith in sym (l.same ∙ rw e)
+covers_any v slot n e = rw (chunks_slices, part_from, e) (any_map (covers (listed_in v)) view_csid (slices csid_width (get_or slot csid_count_at 0) (drop csids_at slot)))

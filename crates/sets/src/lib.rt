@@ -1,8 +1,8 @@
 // Session sets (02 (vii)): the FQ-CSIDs that a Session Set Deletion Request lists, and the sessions that go.
 #![tactic(auto)]
 
-ghost use Rattle.std.specs.Prelude.{◌≡◌, ◌+◌, ◌*◌, ◌/◌, ◌≤◌, ◌<◌, [], ◌∷◌, length};
-ghost use Rattle.octets.specs.Octets.{octet_at};
+ghost use Rattle.std.specs.Prelude.{◌≡◌, ◌+◌, ◌*◌, ◌/◌, ◌≤◌, ◌<◌, [], ◌∷◌, eqb, length};
+ghost use Rattle.octets.specs.Octets.{octet_at, number};
 ghost use Rattle.octets.specs.Lists.{member, keep};
 ghost use Rattle.rules.specs.Limits.{max_message, node_types};
 ghost use Rattle.rules.specs.Layout.{table_length, session_width, csid_width, csid_count_at, view_session, view_csid, view_settings, view_sessions, encode};
@@ -56,21 +56,20 @@ pub fn list_fault(s: &[u8]) -> Result<(), Fault>
 
 // ---- what an FQ-CSID covers
 
+// Whether two octets are a CSID's.
+fn is_csid(two: &[u8; 2], csid: u64) -> bool
+    ensures { result ≡ eqb csid (number two.now) }
+{
+    octets::read(two, 0, 2) == csid
+}
+
 // Whether a CSID is one of the m that cs starts with.
 fn has_csid(cs: &[u8], m: usize, csid: u64) -> bool
     requires { 2 * m ≤ length cs.now }
     ensures { result ≡ member csid (csids_read m cs.now) }
 {
-    let mut rest = cs;
-    let mut left = m;
-    while 0 < left {
-        if octets::read(rest, 0, 2) == csid {
-            return true;
-        }
-        rest = &rest[2..];
-        left -= 1;
-    }
-    false
+    let listed: &[[u8; 2]] = plan::arrays(cs, m);
+    listed.iter().any(|two| is_csid(two, csid))
 }
 
 // Whether the FQ-CSID of value v, which has no fault, covers the one of a slot: node type, Node-ID type, address, and one of its CSIDs.
@@ -97,16 +96,9 @@ fn covers_session(v: &[u8], slot: &[u8]) -> bool
     requires { Sized v.now × (length slot.now ≡ session_width) × (octet_at slot.now csid_count_at ≤ node_types) }
     ensures { result ≡ covers_session (view_session slot.now) (listed_in v.now) }
 {
-    let mut rest = &slot[format::CSIDS..];
-    let mut left = slot[format::CSID_COUNT] as usize;
-    while 0 < left {
-        if covers(v, &rest[..format::CSID]) {
-            return true;
-        }
-        rest = &rest[format::CSID..];
-        left -= 1;
-    }
-    false
+    let n = slot[format::CSID_COUNT] as usize;
+    let csids: &[[u8; format::CSID]] = plan::arrays(&slot[format::CSIDS..], n);
+    csids.iter().any(|csid| covers(v, csid))
 }
 
 // ---- the sessions that go
@@ -141,9 +133,8 @@ fn remove_covered(t: &mut [u8], peer: u32, v: &[u8])
     ensures { t.new ≡ encode (view_settings t.old) (keep (stays_session peer (listed_in v.now ∷ [])) (view_sessions t.old)) }
 {
     let room = octets::read(t, format::LIMIT, 2) as usize;
-    let mut p = session::count(t, room, format::COUNT);
-    while 0 < p {
-        p -= 1;
+    let n = session::count(t, room, format::COUNT);
+    for p in (0..n).rev() {
         remove_one(t, room, p, peer, v);
     }
 }

@@ -1,28 +1,14 @@
--- `sets::has_csid` meets its contract: what is left to look at gives the same answer. Assumes nothing.
-use native.Mathlib.Omega.{arith}
-use Rattle.sets.proofs.CoverLaws.{looks_none, looks_found, looks_more, looks_end}
+-- `sets::has_csid` meets its contract: one of the pairs of octets is the CSID's. Assumes nothing.
+use Rattle.std.proofs.Common.{rules, ◌∙◌}
+use Prim.Native.Nat.{ℕ}
+use mathlib.Core.List.{List}
+use lib.Dec.{eqb}
+use Rattle.octets.specs.Octets.{number}
+use Rattle.plan.proofs.ChainLaws.{any_ran}
+use Rattle.sets.proofs.CoverLaws.{member_pairs}
 use Rattle.sets.proofs.has_csid.Goals as goal
 
-pub loop-left-init : goal.loop-left-init
-loop-left-init c = looks_none _ _ _ c.requires
-
-pub read-requires : goal.read-requires
-read-requires c = let r = c.loop-left.invariant.room in (omega arith, omega arith)
-
-pub returns-then-read-csid : goal.returns-then-read-csid
-returns-then-read-csid c = looks_found c.loop-left.invariant (omega arith) _ c.read.ensures.0 c.if-read-csid.true
-
-pub slice_bounds-rest-count : goal.slice_bounds-rest-count
-slice_bounds-rest-count c = let r = c.loop-left.invariant.room in omega arith
-
-pub slice_bounds-rest-start : goal.slice_bounds-rest-start
-slice_bounds-rest-start c = let r = c.loop-left.invariant.room in omega arith
-
-pub slice_bounds-rest-end : goal.slice_bounds-rest-end
-slice_bounds-rest-end c = let r = c.loop-left.invariant.room in omega arith
-
-pub loop-left-preserved : goal.loop-left-preserved
-loop-left-preserved c = looks_more c.loop-left.invariant (omega arith) _ c.read.ensures.0 c.if-read-csid.false
-
 pub returns : goal.returns
-returns c = looks_end c.loop-left.invariant (omega arith)
+returns c =
+    let a = c.args in
+    any_ran (λ (two : List ℕ). eqb a.csid (number two)) _ _ c.any.result c.any.ensures.ran (search rules) (λ x b q k. search rules) ∙ member_pairs _ _ _

@@ -6,8 +6,8 @@ use Rattle.sets.proofs.remove_covered.Goals as goal
 pub read-room-requires : goal.read-room-requires
 read-room-requires c = let l = c.requires.0.long in omega arith
 
-pub count-p-requires : goal.count-p-requires
-count-p-requires c = search count_room
+pub count-n-requires : goal.count-n-requires
+count-n-requires c = search count_room
 
 pub loop-p-init : goal.loop-p-init
 loop-p-init c = search going_none

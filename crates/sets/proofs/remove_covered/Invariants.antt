@@ -4,6 +4,3 @@ use Rattle.sets.proofs.remove_covered.Given as goal
 
 abbrev pub invariant-loop-p : goal.invariant-loop-p
 invariant-loop-p l = Going l.initial.t l.peer l.v l.t l.room l.p
-
-abbrev pub decreases-loop-p : goal.decreases-loop-p
-decreases-loop-p l = l.p
