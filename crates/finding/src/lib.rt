@@ -67,7 +67,7 @@ fn pdrs_hold(pdrs: &[u8], n: usize, teid: u64) -> bool
 {
     for i in 0..n {
         let at = i * PDR;
-        if marking::holds(&pdrs[at..at + PDR], teid) {
+        if marking::holds(pdrs[at..].first_chunk().unwrap(), teid) {
             return true;
         }
     }

@@ -3,7 +3,7 @@
 use Rattle.std.specs.Prelude.{Result, Ok}
 use Rattle.marking.specs.declared.Broken.{Broken}
 use Rattle.marking.specs.Refusal.{refusal}
-use Rattle.std.proofs.Common.{◌≡◌, ℕ, ◌+◌, ◌-◌, ◌*◌, ◌^◌, ◌<◌, ◌≤◌, Bool, true, false, not, T, eqb, List, [], length, get_or, take, drop, sym, refl, ap, ◌∙◌, arith, ne_eqb}
+use Rattle.std.proofs.Common.{◌≡◌, ℕ, ◌+◌, ◌-◌, ◌*◌, ◌^◌, ◌<◌, ◌≤◌, Bool, true, false, not, T, eqb, List, [], length, get_or, sym, refl, ap, ◌∙◌, arith, ne_eqb}
 use mathlib.Core.Option.{Option, none, some}
 use borrow.Author.Tests.{not-true, not-false}
 use Rattle.octets.specs.Choice.{pick}
@@ -20,7 +20,7 @@ use Rattle.unit.specs.declared.Settings.{Settings as Unit}
 use Rattle.unit.specs.Meaning.{settings_of}
 use Rattle.records.specs.Kept.{pdr_sound, endpoint_sound}
 use Rattle.records.proofs.Answers.{endpoint_pool, pdr_pool}
-use Rattle.marking.specs.Marking.{held_by, hold_at, endpoint_hold, step_of, words_of, Stepped}
+use Rattle.marking.specs.Marking.{held_by, pdr_hold, endpoint_hold, step_of, words_of, Stepped}
 use Rattle.marking.proofs.Looking.{hold_of_lem, teid_of_lem}
 
 -- ---- a record that is refused, and one that is not
@@ -68,74 +68,58 @@ module _ (xs : List ℕ) (u : Unit) (ws : List ℕ) (b : Bool) (qb : b ≡ endpo
 
 -- ---- a PDR
 
--- the slot as the code has it
-abbrev pub slot_at : List ℕ → ℕ → List ℕ
-slot_at a i = take (i * pdr_width + pdr_width - i * pdr_width) (drop (i * pdr_width) a)
+module _ (xs : List ℕ) where
+  hold_is : pdr_hold xs ≡ pick (eqb (get_or xs match_at 0) 1) (some (held_by xs)) none
+  unfolding pdr_hold
+  hold_is = hold_of_lem xs
 
-module _ (a : List ℕ) (i : ℕ) where
-  slot_is : slot_at a i ≡ part (i * pdr_width) pdr_width a
-  slot_is = let span : i * pdr_width + pdr_width - i * pdr_width ≡ pdr_width = omega arith in rw span
+  hold_absent : (get_or xs match_at 0 ≡ 1 → ⊥) → pdr_hold xs ≡ none
+  hold_absent h = hold_is ∙ rw (ne_eqb (get_or xs match_at 0) 1 h)
 
-  hold_is : hold_at a i ≡ pick (eqb (get_or (slot_at a i) match_at 0) 1) (some (held_by (slot_at a i))) none
-  unfolding hold_at
-  hold_is = hold_of_lem (part (i * pdr_width) pdr_width a) ∙ ap (λ (x : List ℕ). pick (eqb (get_or x match_at 0) 1) (some (held_by x)) none) (sym slot_is)
-
-  hold_absent : (get_or (slot_at a i) match_at 0 ≡ 1 → ⊥) → hold_at a i ≡ none
-  hold_absent h = hold_is ∙ rw (ne_eqb (get_or (slot_at a i) match_at 0) 1 h)
-
-  hold_there : get_or (slot_at a i) match_at 0 ≡ 1 → hold_at a i ≡ some (held_by (slot_at a i))
+  hold_there : get_or xs match_at 0 ≡ 1 → pdr_hold xs ≡ some (held_by xs)
   hold_there h = hold_is ∙ rw h
 
-  module _ (u : Unit) (live ws : List ℕ) (earlier : List Holding) (b : Bool) (qb : b ≡ pdr_sound (settings_of u) live (slot_at a i)) where
-    abbrev pub sound_at : Bool
-    sound_at = pdr_sound (settings_of u) live (part (i * pdr_width) pdr_width a)
+module _ (xs : List ℕ) (u : Unit) (live ws : List ℕ) (earlier : List Holding) (b : Bool) (qb : b ≡ pdr_sound (settings_of u) live xs) where
+  abbrev pub sound_at : Bool
+  sound_at = pdr_sound (settings_of u) live xs
 
-    sound_is : b ≡ sound_at
-    sound_is = qb ∙ ap (pdr_sound (settings_of u) live) slot_is
+  pub pdr_broken : not b ≡ true → Stepped sound_at u.first ws earlier (pdr_hold xs) refusal ws
+  pdr_broken h = step_broken (sym qb ∙ not-true b h)
 
-    pub pdr_broken : not b ≡ true → Stepped sound_at u.first ws earlier (hold_at a i) refusal ws
-    pdr_broken h = step_broken (sym sound_is ∙ not-true b h)
+  module _ (good : not b ≡ false) where
+    pub pdr_none : (get_or xs match_at 0 ≡ 1 → ⊥) → Stepped sound_at u.first ws earlier (pdr_hold xs) (Ok 0) ws
+    unfolding step_of words_of
+    pdr_none h = step_good (sym qb ∙ not-false b good) (sym (rw (hold_absent xs h))) (sym (rw (hold_absent xs h)))
 
-    module _ (good : not b ≡ false) where
-      pub pdr_none : (get_or (slot_at a i) match_at 0 ≡ 1 → ⊥) → Stepped sound_at u.first ws earlier (hold_at a i) (Ok 0) ws
-      unfolding step_of words_of
-      pdr_none h = step_good (sym sound_is ∙ not-false b good) (sym (rw (hold_absent h))) (sym (rw (hold_absent h)))
+    module _ (there : get_or xs match_at 0 ≡ 1) (t : ℕ) (q : t ≡ number (part teid_at 4 xs)) where
+      pub pdr_fits_lem : length xs ≡ pdr_width → T (octets xs) → u.first + u.size ≤ 2 ^ 32 → u.size ≤ 64 * length ws → (u.first ≤ t) × (t - u.first < 64 * length ws)
+      pdr_fits_lem e o pool room =
+          let f = pdr_pool u pool live xs e o (sym qb ∙ not-false b good) there in
+          (omega (arith, f.0, q), omega (arith, f.0, f.1, q))
 
-      module _ (there : get_or (slot_at a i) match_at 0 ≡ 1) (t : ℕ) (q : t ≡ number (part teid_at 4 (slot_at a i))) where
-        pub pdr_fits_lem : length (slot_at a i) ≡ pdr_width → T (octets (slot_at a i)) → u.first + u.size ≤ 2 ^ 32 → u.size ≤ 64 * length ws → (u.first ≤ t) × (t - u.first < 64 * length ws)
-        pdr_fits_lem e o pool room =
-            let f = pdr_pool u pool live (slot_at a i) e o (sym qb ∙ not-false b good) there in
-            (omega (arith, f.0, q), omega (arith, f.0, f.1, q))
+      held : t ≡ (held_by xs).teid
+      held = q ∙ sym (teid_of_lem xs)
 
-        held : t ≡ (held_by (slot_at a i)).teid
-        held = q ∙ sym (teid_of_lem (slot_at a i))
+      module _ (m : Bool) (ws' : List ℕ) (qm : m ≡ marked ws (t - u.first)) (qw : ws' ≡ mark ws (t - u.first)) where
+        words_are : ws' ≡ words_of u.first ws (pdr_hold xs)
+        unfolding words_of
+        words_are = qw ∙ sym (rw (hold_there xs there, ← held))
 
-        module _ (m : Bool) (ws' : List ℕ) (qm : m ≡ marked ws (t - u.first)) (qw : ws' ≡ mark ws (t - u.first)) where
-          words_are : ws' ≡ words_of u.first ws (hold_at a i)
-          unfolding words_of
-          words_are = qw ∙ sym (rw (hold_there there, ← held))
+        step_is : step_of u.first ws earlier (pdr_hold xs) ≡ pick m (pick (joins earlier (held_by xs)) (Ok 0) refusal) (Ok 1)
+        unfolding step_of
+        step_is =
+            ap (step_of u.first ws earlier) (hold_there xs there)
+            ∙ ap (λ (t : Bool). pick t (pick (joins earlier (held_by xs)) (Ok 0) refusal) (Ok 1)) (ap (λ (n : ℕ). marked ws (n - u.first)) (sym held) ∙ sym qm)
 
-          step_is : step_of u.first ws earlier (hold_at a i) ≡ pick m (pick (joins earlier (held_by (slot_at a i))) (Ok 0) refusal) (Ok 1)
-          unfolding step_of
-          step_is =
-              ap (step_of u.first ws earlier) (hold_there there)
-              ∙ ap (λ (t : Bool). pick t (pick (joins earlier (held_by (slot_at a i))) (Ok 0) refusal) (Ok 1)) (ap (λ (n : ℕ). marked ws (n - u.first)) (sym held) ∙ sym qm)
+        pub pdr_new_lem : not m ≡ true → Stepped sound_at u.first ws earlier (pdr_hold xs) (Ok 1) ws'
+        pdr_new_lem h = step_good (sym qb ∙ not-false b good) (sym (step_is ∙ rw (not-true m h))) words_are
 
-          pub pdr_new_lem : not m ≡ true → Stepped sound_at u.first ws earlier (hold_at a i) (Ok 1) ws'
-          pdr_new_lem h = step_good (sym sound_is ∙ not-false b good) (sym (step_is ∙ rw (not-true m h))) words_are
+        module _ (h : not m ≡ false) (j : Bool) (qj : j ≡ joins earlier (held_by xs)) where
+          step_met : step_of u.first ws earlier (pdr_hold xs) ≡ pick j (Ok 0) refusal
+          step_met = step_is ∙ (λ e. pick (not-false m h e) (pick (sym qj e) (Ok 0) refusal) (Ok 1))
 
-          module _ (h : not m ≡ false) (j : Bool) (qj : j ≡ joins earlier (held_by (slot_at a i))) where
-            step_met : step_of u.first ws earlier (hold_at a i) ≡ pick j (Ok 0) refusal
-            step_met = step_is ∙ (λ e. pick (not-false m h e) (pick (sym qj e) (Ok 0) refusal) (Ok 1))
+          pub pdr_shared : j ≡ true → Stepped sound_at u.first ws earlier (pdr_hold xs) (Ok 0) ws'
+          pdr_shared k = step_good (sym qb ∙ not-false b good) (sym (step_met ∙ rw k)) words_are
 
-            pub pdr_shared : j ≡ true → Stepped sound_at u.first ws earlier (hold_at a i) (Ok 0) ws'
-            pdr_shared k = step_good (sym sound_is ∙ not-false b good) (sym (step_met ∙ rw k)) words_are
-
-            pub pdr_met : j ≡ false → Stepped sound_at u.first ws earlier (hold_at a i) refusal ws'
-            pdr_met k = step_clash (sym (step_met ∙ rw k))
-
--- an endpoint as the code of a walk has it
-pub endpoint_at : (u : Unit) (ws a : List ℕ) (i : ℕ) (r : Result ℕ Broken) (ws' : List ℕ)
-    → let xs = take (i * endpoint_width + endpoint_width - i * endpoint_width) (drop (i * endpoint_width) a) in Stepped (endpoint_sound (settings_of u) xs) u.first ws [] (endpoint_hold xs) r ws'
-    → Stepped (endpoint_sound (settings_of u) (part (i * endpoint_width) endpoint_width a)) u.first ws [] (endpoint_hold (part (i * endpoint_width) endpoint_width a)) r ws'
-endpoint_at u ws a i r ws' t = let span : i * endpoint_width + endpoint_width - i * endpoint_width ≡ endpoint_width = omega arith in rw span at t
+          pub pdr_met : j ≡ false → Stepped sound_at u.first ws earlier (pdr_hold xs) refusal ws'
+          pdr_met k = step_clash (sym (step_met ∙ rw k))

@@ -5,7 +5,7 @@ use Rattle.marking.specs.declared.Broken.{Broken}
 use Rattle.marking.specs.declared.New.{New}
 use Rattle.marking.specs.declared.Tally.{Tally}
 use Rattle.marking.specs.Refusal.{refusal}
-use Rattle.std.proofs.Common.{◌≡◌, ℕ, ◌+◌, ◌-◌, ◌*◌, ◌^◌, ◌<◌, ◌≤◌, Bool, true, false, not, ◌&&◌, T, eqb, List, [], ◌∷◌, get_or, take, drop, set, replicate, sym, refl, ap, ◌∙◌, subst, zero-le, add-zero, zero-add, arith, lit<, lit≤, length-set, get_or-set_other, get_or-set_same}
+use Rattle.std.proofs.Common.{◌≡◌, ℕ, ◌+◌, ◌-◌, ◌*◌, ◌^◌, ◌<◌, ◌≤◌, Bool, true, false, not, ◌&&◌, T, eqb, List, [], ◌∷◌, get_or, drop, set, replicate, sym, refl, ap, ◌∙◌, subst, zero-le, add-zero, zero-add, arith, lit<, lit≤, length-set, get_or-set_other, get_or-set_same}
 use mathlib.Core.Path.{transport}
 use lib.ListN.{length-replicate}
 use Rattle.octets.specs.Choice.{pick, flag}
@@ -225,15 +225,12 @@ module _ (s : Settings) (ws₀ as₀ a : List ℕ) (n : ℕ) where
     pub passing_turn : Agrees (i + 1 - 1) s.address_count hs as'
     passing_turn = let e : i + 1 - 1 ≡ i = omega arith in rw e p.agrees
 
-    module _ (h : i < n) (r : Result New Broken) (ws₁ hs₁ as₁ : List ℕ)
-        (m : SessionClaimed s (i + 1) ws as' (take (i * session_width + session_width - i * session_width) (drop (i * session_width) a)) r ws₁ hs₁ as₁) where
+    module _ (h : i < n) (row : List ℕ) (e : row ≡ part (i * session_width) session_width a) (r : Result New Broken) (ws₁ hs₁ as₁ : List ℕ) (m : SessionClaimed s (i + 1) ws as' row r ws₁ hs₁ as₁) where
       abbrev slot : List ℕ
       slot = part (i * session_width) session_width a
 
       here : SlotEntered s ws as' slot r ws₁ as₁
-      here =
-          let span : i * session_width + session_width - i * session_width ≡ session_width = omega arith in
-          subst (λ (k : ℕ). SlotEntered s ws as' (take k (drop (i * session_width) a)) r ws₁ as₁) span m.entered
+      here = subst (λ (x : List ℕ). SlotEntered s ws as' x r ws₁ as₁) e m.entered
 
       -- whose the session is
       pub passing_peer : (new : New) → r ≡ Ok new → T (is_peer (get_or slot 0 0))
@@ -272,25 +269,22 @@ module _ (s : Settings) (ws₀ as₀ a : List ℕ) (n : ℕ) where
           }
 
       -- the same by the numbers that the code has
-      abbrev lent : List ℕ
-      lent = take (i * session_width + session_width - i * session_width) (drop (i * session_width) a)
+      front : get_or row 0 0 ≡ get_or slot 0 0
+      front = ap (λ (x : List ℕ). get_or x 0 0) e
 
-      front : get_or lent 0 0 ≡ get_or slot 0 0
-      front = let span : i * session_width + session_width - i * session_width ≡ session_width = omega arith in ap (λ (k : ℕ). get_or (take k (drop (i * session_width) a)) 0 0) span
-
-      pub turn_tally : (new : New) → r ≡ Ok new → n ≤ max_sessions → Tallied c new (get_or lent 0 0)
-      turn_tally new e few = passing_tally new (get_or lent 0 0) e front few
+      pub turn_tally : (new : New) → r ≡ Ok new → n ≤ max_sessions → Tallied c new (get_or row 0 0)
+      turn_tally new z few = passing_tally new (get_or row 0 0) z front few
 
       pub turn_added : (new : New) (c' : Tally) → r ≡ Ok new
-          → (c'.one ≡ c.one + new.teids * (2 - get_or lent 0 0)) × (c'.two ≡ c.two + new.teids * (get_or lent 0 0 - 1)) × (c'.first ≡ c.first + (2 - get_or lent 0 0)) × (c'.taken ≡ c.taken + new.addresses)
+          → (c'.one ≡ c.one + new.teids * (2 - get_or row 0 0)) × (c'.two ≡ c.two + new.teids * (get_or row 0 0 - 1)) × (c'.first ≡ c.first + (2 - get_or row 0 0)) × (c'.taken ≡ c.taken + new.addresses)
           → Passing ws₁ hs₁ as₁ (i + 1) c'
-      turn_added new c' e y =
-          transport (λ x. Passing ws₁ hs₁ as₁ (i + 1) (record { one = sym y.0 x; two = sym y.1 x; first = sym y.2 x; taken = sym y.3 x })) (passing_more new (get_or lent 0 0) e front)
+      turn_added new c' z y =
+          transport (λ x. Passing ws₁ hs₁ as₁ (i + 1) (record { one = sym y.0 x; two = sym y.1 x; first = sym y.2 x; taken = sym y.3 x })) (passing_more new (get_or row 0 0) z front)
 
       pub passing_stop : (v b : List ℕ) → r ≡ refusal → AllAdmitted s ws₀ as₀ slots refusal v b
       unfolding slots_keep slots_free
-      passing_stop v b e =
-          entered_not here e
+      passing_stop v b z =
+          entered_not here z
           (λ f. not_all v b (rw (through_stop (slot_keeps s) (slot_teids s) ws₀ a n p.teids h f)))
           (λ f. not_all v b (rw (through_stop (slot_free s) (held_offsets s) as₀ a n p.addresses h f) (and-false (slots_keep s ws₀ slots))))
 

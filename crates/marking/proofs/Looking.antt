@@ -1,20 +1,23 @@
 -- A PDR's hold by its octets, and the look back over the PDRs passed.
 -- Assumes nothing.
-use Rattle.std.proofs.Common.{◌≡◌, ℕ, zero, suc, ◌+◌, ◌-◌, ◌*◌, ◌/◌, ◌%◌, ◌^◌, ◌<◌, ◌≤◌, Bool, true, false, ◌&&◌, ◌||◌, eqb, List, [], ◌∷◌, ◌++◌, map, get_or, take, drop, sym, refl, ap, ◌∙◌, ap₂, mod-lt, suc-mul, add_comm, zero-mul, arith, lit<, eqb→eq, drop-drop, eq-eqb, ne_eqb}
-use mathlib.Core.Bool.{or-false}
+use Rattle.std.proofs.Common.{◌≡◌, ℕ, zero, suc, ◌+◌, ◌*◌, ◌/◌, ◌%◌, ◌^◌, ◌<◌, Bool, true, false, ◌&&◌, ◌||◌, eqb, List, [], ◌∷◌, ◌++◌, map, get_or, take, drop, sym, refl, ap, ◌∙◌, ap₂, mod-lt, suc-mul, add_comm, zero-mul, arith, lit<, eqb→eq, drop-drop}
 use mathlib.Core.Option.{Option, none, some}
 use mir.Facts.{yes_eqb}
 use Rattle.octets.specs.Choice.{pick, map_option, same_bool, cons_option}
 use Rattle.octets.specs.Octets.{part, number, octet_at, bit, slices}
 use Rattle.octets.specs.Lists.{collect}
 use Rattle.octets.proofs.Tests.{and_left, and_right, both}
-use Rattle.octets.proofs.Bools.{both_ways, and_assoc, and-false, and-true, or-true, same_bit}
+use Rattle.octets.proofs.Bools.{both_ways, and_assoc, same_bit}
 use Rattle.rules.specs.Model.{neither, tunnel, endpoint, Pdr, Holding, tunnel_holding, matched_tunnel, pdr_holding}
-use Rattle.rules.specs.Layout.{tunnel_read, match_read, view_pdr, pdr_width, source_at, match_at, teid_at, families_at, named_endpoint_at}
+use Rattle.rules.specs.Layout.{tunnel_read, match_read, view_pdr, source_at, match_at, teid_at, families_at, named_endpoint_at}
 use Rattle.laws.proofs.LayoutLaws.{pdr_view}
+use Rattle.std.specs.List.{list_any}
+use Rattle.std.specs.Prelude.{reverse}
+use Rattle.std.proofs.lemmas.List.Sorted.{list_any-IsPermutation, IsPermutation-reverse}
+use Rattle.marking.proofs.Joining.{joins_append}
 use Rattle.marking.specs.Walk.{joins}
-use Rattle.marking.proofs.RecordWalk.{look_back, look_none, look_some}
-use Rattle.marking.specs.Marking.{holds_teid, alike, held_by, pdr_holds}
+use Rattle.marking.proofs.RecordWalk.{look_none, look_some}
+use Rattle.marking.specs.Marking.{holds_teid, alike, held_by, holds_in}
 
 -- ---- a PDR's hold
 
@@ -84,59 +87,18 @@ look_one xs ys = ap (λ (o : Option Holding). joins (cons_option o []) (held_by 
     go false = look_none (held_by ys)
     go true = look_some (held_by ys) (held_by xs) (unfold held_by tunnel_holding in refl) (unfold held_by tunnel_holding in refl) ∙ (λ i. eqb (teid_of_lem xs i) (teid_of_lem ys i) && kinds_alike xs ys i)
 
--- the loop: those before give the same answer
-module _ (a : List ℕ) (i : ℕ) (ys : List ℕ) (h : 0 < i) where
-  abbrev pub looks_to : ℕ → Bool
-  looks_to n = joins (pdr_holds n a) (held_by ys)
+-- the PDRs before it, looked through from the last on
+any_holds : (ys : List ℕ) (t : ℕ) → t ≡ number (part teid_at 4 ys) → (rows : List (List ℕ)) → list_any (λ row. holds_teid row t && alike row ys) rows ≡ joins (holds_in rows) (held_by ys)
+unfolding holds_in collect
+any_holds ys t q [] = sym (look_none (held_by ys))
+any_holds ys t q (row ∷ rows) =
+    (λ i. (holds_teid row (q i) && alike row ys) || any_holds ys t q rows i)
+    ∙ ap (λ (b : Bool). b || joins (collect pdr_holding (map view_pdr rows)) (held_by ys)) (sym (look_one row ys))
+    ∙ apart (pdr_holding (view_pdr row))
+  where
+    apart : (o : Option Holding) → (joins (cons_option o []) (held_by ys) || joins (collect pdr_holding (map view_pdr rows)) (held_by ys)) ≡ joins (cons_option o (collect pdr_holding (map view_pdr rows))) (held_by ys)
+    apart none = rw (look_none (held_by ys))
+    apart (some h) = sym (joins_append (held_by ys) (h ∷ []) (collect pdr_holding (map view_pdr rows)))
 
-  abbrev last : List ℕ
-  last = part ((i - 1) * pdr_width) pdr_width a
-
-  here : looks_to i ≡ (looks_to (i - 1) || (holds_teid last (number (part teid_at 4 ys)) && alike last ys))
-  unfolding pdr_holds
-  here =
-      let e : i ≡ suc (i - 1) = omega arith in
-      ap (λ (n : ℕ). joins (pdr_holds n a) (held_by ys)) e
-      ∙ ap (λ (ps : List Pdr). joins (collect pdr_holding ps) (held_by ys)) (ap (map view_pdr) (slices_snoc pdr_width (i - 1) a) ∙ map_snoc (slices pdr_width (i - 1) a) last)
-      ∙ look_back pdr_holding (map view_pdr (slices pdr_width (i - 1) a)) (view_pdr last) (held_by ys)
-      ∙ ap (λ (b : Bool). looks_to (i - 1) || b) (look_one last ys)
-
-  -- as the code has the slot
-  module _ (t : ℕ) (q : t ≡ number (part teid_at 4 ys)) (r : Bool) (e : r ≡ holds_teid (take ((i - 1) * pdr_width + pdr_width - (i - 1) * pdr_width) (drop ((i - 1) * pdr_width) a)) t) where
-    held : r ≡ holds_teid last (number (part teid_at 4 ys))
-    held = let span : (i - 1) * pdr_width + pdr_width - (i - 1) * pdr_width ≡ pdr_width = omega arith in rw (span, q) at e
-
-    pub look_other : r ≡ false → looks_to i ≡ looks_to (i - 1)
-    look_other g = here ∙ rw (← held, g) (or-false (looks_to (i - 1)))
-
-    module _ (k : Bool) (u : k ≡ alike (take ((i - 1) * pdr_width + pdr_width - (i - 1) * pdr_width) (drop ((i - 1) * pdr_width) a)) ys) where
-      same : k ≡ alike last ys
-      same = let span : (i - 1) * pdr_width + pdr_width - (i - 1) * pdr_width ≡ pdr_width = omega arith in rw span at u
-
-      pub look_here : r ≡ true → k ≡ true → true ≡ looks_to i
-      look_here g f = sym (here ∙ rw (← held, g, ← same, f) (or-true (looks_to (i - 1))))
-
-      pub look_unlike : r ≡ true → k ≡ false → looks_to i ≡ looks_to (i - 1)
-      look_unlike g f = here ∙ rw (← held, g, ← same, f) (or-false (looks_to (i - 1)))
-
-pub look_end : (a : List ℕ) (i : ℕ) (ys : List ℕ) → i ≤ 0 → joins (pdr_holds i a) (held_by ys) ≡ false
-unfolding pdr_holds slices collect
-look_end a i ys h = let e : i ≡ 0 = omega arith in rw e (look_none (held_by ys))
-
--- ---- the answers of the two tests
-
-pub holds_not : (xs : List ℕ) (t v : ℕ) → v ≡ number (part teid_at 4 xs) → (v ≡ t → ⊥) → false ≡ holds_teid xs t
-unfolding holds_teid octet_at
-holds_not xs t v q h = sym (rw (← q, ne_eqb v t h) (and-false (eqb (get_or xs match_at 0) 1)))
-
-pub holds_test : (xs : List ℕ) (t v : ℕ) → v ≡ number (part teid_at 4 xs) → v ≡ t → eqb (get_or xs match_at 0) 1 ≡ holds_teid xs t
-unfolding holds_teid octet_at
-holds_test xs t v q h = sym (rw (← q, eq-eqb v t h) (and-true (eqb (get_or xs match_at 0) 1)))
-
-pub alike_not : (xs ys : List ℕ) → (get_or xs families_at 0 % 4 ≡ get_or ys families_at 0 % 4 → ⊥) → false ≡ alike xs ys
-unfolding alike octet_at
-alike_not xs ys h = sym (rw (ne_eqb (get_or xs families_at 0 % 4) (get_or ys families_at 0 % 4) h))
-
-pub alike_test : (xs ys : List ℕ) → get_or xs families_at 0 % 4 ≡ get_or ys families_at 0 % 4 → eqb (get_or xs source_at 0) (get_or ys source_at 0) ≡ alike xs ys
-unfolding alike octet_at
-alike_test xs ys h = sym (rw (eq-eqb (get_or xs families_at 0 % 4) (get_or ys families_at 0 % 4) h))
+pub looked : (rows : List (List ℕ)) (ys : List ℕ) (t : ℕ) → t ≡ number (part teid_at 4 ys) → list_any (λ row. holds_teid row t && alike row ys) (reverse rows) ≡ joins (holds_in rows) (held_by ys)
+looked rows ys t q = sym (list_any-IsPermutation (λ row. holds_teid row t && alike row ys) rows (reverse rows) (IsPermutation-reverse rows)) ∙ any_holds ys t q rows

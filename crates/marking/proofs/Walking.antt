@@ -4,7 +4,7 @@
 use Rattle.std.specs.Prelude.{Result, Ok}
 use Rattle.marking.specs.declared.Broken.{Broken}
 use Rattle.marking.specs.Refusal.{refusal}
-use Rattle.std.proofs.Common.{◌≡◌, ℕ, ◌+◌, ◌-◌, ◌*◌, ◌<◌, ◌≤◌, Bool, true, false, not, ◌&&◌, List, [], ◌∷◌, ◌++◌, map, length, drop, sym, refl, ap, ◌∙◌, subst, zero-le, add-one, arith}
+use Rattle.std.proofs.Common.{◌≡◌, ℕ, ◌+◌, ◌-◌, ◌*◌, ◌<◌, ◌≤◌, Bool, true, false, not, ◌&&◌, List, [], ◌∷◌, ◌++◌, map, length, take, drop, sym, refl, ap, ◌∙◌, subst, zero-le, add-one, arith}
 use mathlib.Core.Option.{Option}
 use borrow.Author.Tests.{not-true, not-false}
 use Rattle.octets.specs.Choice.{pick}
@@ -16,7 +16,11 @@ use Rattle.rules.specs.Layout.{view_pdr, view_endpoint, pdr_width, endpoint_widt
 use Rattle.marking.specs.Walk.{session_marks}
 use Rattle.records.specs.Slot.{area_sound}
 use Rattle.records.proofs.Turns.{slices_more, Rows, rows_none, rows_low, rows_bad, rows_more, rows_room}
-use Rattle.marking.specs.Marking.{hold_at, endpoint_hold, pdr_holds, endpoint_holds, step_of, words_of, Stepped, walked, Marked}
+use mathlib.Core.Path.{transport}
+use Rattle.unit.specs.declared.Settings.{Settings as Unit}
+use Rattle.unit.specs.Meaning.{settings_of}
+use Rattle.records.specs.Kept.{pdr_sound, endpoint_sound, ids_of, endpoint_ids}
+use Rattle.marking.specs.Marking.{holds_in, pdr_hold, hold_at, endpoint_hold, pdr_holds, endpoint_holds, step_of, words_of, Stepped, walked, Marked}
 use Rattle.marking.proofs.Looking.{slices_snoc, map_snoc}
 use Rattle.marking.proofs.Steps.{Marking, marking_start, marking_end, endpoint_turn, endpoint_clash, pdr_turn, pdr_clash, step_few}
 
@@ -78,16 +82,16 @@ module _ (p : List ℕ → Bool) (w k : ℕ) (a : List ℕ) {n first : ℕ} {ws�
   broken ws' e = refused ws' (rw e)
 
   module _ {ws : List ℕ} {i next new : ℕ} (r : Here ws i next new) (h : i < n) where
-    module _ (narrow : k ≤ w) (key : ℕ) (q : key ≡ number (part (i * w) k a)) where
+    module _ (key : ℕ) (q : key ≡ number (take k (part (i * w) w a))) where
       pub walk_low : (ws' : List ℕ) → key < next → Answer refusal ws'
-      walk_low ws' l = broken ws' (rows_low p w k a n r.rows h narrow key q l)
+      walk_low ws' l = broken ws' (rows_low p w k a n r.rows h key q l)
 
       pub walk_more : (m : Result ℕ Broken) (ws' : List ℕ) → Stepped (p (part (i * w) w a)) first ws (earlier i) (hold i) m ws' → next ≤ key → (j : ℕ) → m ≡ Ok j → Here ws' (i + 1) (key + 1) (new + j)
       walk_more m ws' t l j e =
           let s = stepped_new t j e in
           record {
             few = omega (arith, r.few, step_few first ws (earlier i) (hold i) j s.1);
-            rows = rows_more p w k a n r.rows h narrow key q l s.0;
+            rows = rows_more p w k a n r.rows h key q l s.0;
             state = rw (t.words j e) (ps.turn h r.state j s.1);
           }
 
@@ -132,6 +136,10 @@ module _ (first : ℕ) (ws₀ a : List ℕ) (n : ℕ) where
             (subst (λ (l : List Holding). Marking first ws₀ (endpoint_holds n a) ws [] l new) (ends_left i h) m);
         end = ends_none;
       }
+
+-- an endpoint as the walk has it
+pub endpoint_row : (u : Unit) {ws ws' xs : List ℕ} (row : List ℕ) → row ≡ xs → {r : Result ℕ Broken} → Stepped (endpoint_sound (settings_of u) row) u.first ws [] (endpoint_hold row) r ws' → Stepped (endpoint_sound (settings_of u) xs) u.first ws [] (endpoint_hold xs) r ws'
+endpoint_row u {ws} {ws'} row e {r} t = subst (λ (xs : List ℕ). Stepped (endpoint_sound (settings_of u) xs) u.first ws [] (endpoint_hold xs) r ws') e t
 
 -- ---- PDRs
 
@@ -183,3 +191,15 @@ module _ (first : ℕ) (ws₀ a : List ℕ) (n : ℕ) where
           subst (λ (l : List Holding). Marking first ws₀ (pdr_holds n a) (words_of first ws (hold_at a i)) l (pdrs_from (i + 1)) (new + k)) (pdrs_done i)
           (pdr_turn (done_at i) (view_pdr (part (i * pdr_width) pdr_width a)) (rest_at i)
           (subst (λ (l : List Holding). Marking first ws₀ (pdr_holds n a) ws (pdrs_to i) l new) (pdrs_left_lem i h) m) k q)
+
+-- a PDR as the walk has it
+pub pdr_row : (u : Unit) (live a : List ℕ) (i : ℕ) {ws ws' : List ℕ} {rows : List (List ℕ)} (row : List ℕ) → row ≡ part (i * pdr_width) pdr_width a → rows ≡ slices pdr_width i a → {r : Result ℕ Broken}
+    → Stepped (pdr_sound (settings_of u) live row) u.first ws (holds_in rows) (pdr_hold row) r ws' → Stepped (pdr_sound (settings_of u) live (part (i * pdr_width) pdr_width a)) u.first ws (pdr_holds i a) (hold_at a i) r ws'
+unfolding holds_in pdr_holds pdr_hold hold_at
+pdr_row u live a i {ws} {ws'} row e f {r} t = transport (λ j. Stepped (pdr_sound (settings_of u) live (e j)) u.first ws (collect pdr_holding (map view_pdr (f j))) (pdr_holding (view_pdr (e j))) r ws') t
+
+-- the endpoints that PDRs name
+pub named_rows : (u : Unit) (xs a : List ℕ) (m n : ℕ) {ws ws' : List ℕ} {rows : List (List ℕ)} → rows ≡ slices endpoint_width m a → {r : Result ℕ Broken}
+    → Marked (area_sound (pdr_sound (settings_of u) (ids_of rows)) pdr_width 2 n xs) u.first ws (pdr_holds n xs) r ws' → Marked (area_sound (pdr_sound (settings_of u) (endpoint_ids m a)) pdr_width 2 n xs) u.first ws (pdr_holds n xs) r ws'
+unfolding endpoint_ids
+named_rows u xs a m n {ws} {ws'} e {r} t = subst (λ (l : List (List ℕ)). Marked (area_sound (pdr_sound (settings_of u) (ids_of l)) pdr_width 2 n xs) u.first ws (pdr_holds n xs) r ws') e t

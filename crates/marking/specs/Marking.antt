@@ -35,6 +35,10 @@ held_by xs = tunnel_holding true (octet_at xs source_at) (tunnel_read (number (p
 
 -- ---- holds by octets
 
+-- of PDRs' slots, and of the first n PDRs in octets
+unfoldable pub holds_in : List (List ℕ) → List Holding
+holds_in rows = collect pdr_holding (map view_pdr rows)
+
 unfoldable pub pdr_holds : ℕ → List ℕ → List Holding
 pdr_holds n a = collect pdr_holding (map view_pdr (slices pdr_width n a))
 
@@ -44,7 +48,10 @@ endpoint_holds n a = map endpoint_holding (map view_endpoint (slices endpoint_wi
 unfoldable pub slot_holds : List ℕ → List Holding
 slot_holds xs = session_holdings (view_session xs)
 
--- the hold of the PDR at place i
+-- the hold of a PDR's slot, and of the PDR at place i
+unfoldable pub pdr_hold : List ℕ → Option Holding
+pdr_hold xs = pdr_holding (view_pdr xs)
+
 unfoldable pub hold_at : List ℕ → ℕ → Option Holding
 hold_at a i = pdr_holding (view_pdr (part (i * pdr_width) pdr_width a))
 

@@ -14,7 +14,7 @@ ghost use Rattle.marking.specs.Offsets.{offset_of, address_at, offsets_in, holde
 use crate::Broken;
 use format::{
     CSIDS, ENDPOINT, ENDPOINT_ADDRESS_THERE, ENDPOINT_COUNT, ENDPOINTS, MAX_ADDRESSES, PDR,
-    PDR_ADDRESS_THERE, PDR_COUNT, PDRS,
+    PDR_ADDRESS_THERE, PDR_COUNT, PDRS, SLOT,
 };
 use unit::Settings;
 
@@ -80,11 +80,11 @@ fn claim_all(
 pub fn admit(
     holders: &mut [u16],
     words: &mut [u64],
-    slot: &[u8],
+    slot: &[u8; SLOT],
     turn: u16,
     u: Settings,
 ) -> Result<usize, Broken>
-    requires { (length slot.now ≡ session_width) × T (slot_sound (settings_of u) slot.now) × (u.first + u.size ≤ 2 ^ 32) × (u.first_address + u.addresses ≤ 2 ^ 32) × (u.addresses ≤ 64 * length words.old) × (1 ≤ turn) × (turn ≤ max_sessions) × Agrees (turn - 1) u.addresses holders.old words.old }
+    requires { T (slot_sound (settings_of u) slot.now) × (u.first + u.size ≤ 2 ^ 32) × (u.first_address + u.addresses ≤ 2 ^ 32) × (u.addresses ≤ 64 * length words.old) × (1 ≤ turn) × (turn ≤ max_sessions) × Agrees (turn - 1) u.addresses holders.old words.old }
     ensures { SlotClaimed (settings_of u) turn words.old slot.now result holders.new words.new }
 {
     let m = slot[ENDPOINT_COUNT] as usize;

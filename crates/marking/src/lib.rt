@@ -6,15 +6,15 @@
 // A PDR that matches on an F-TEID has 1 at MATCH.
 #![tactic(auto)]
 
-ghost use Rattle.std.specs.Prelude.{◌≡◌, ◌+◌, ◌-◌, ◌*◌, ◌^◌, ◌≤◌, [], length, replicate};
-ghost use Rattle.octets.specs.Octets.{part, slices};
+ghost use Rattle.std.specs.Prelude.{◌≡◌, ◌+◌, ◌-◌, ◌*◌, ◌^◌, ◌≤◌, ◌&&◌, [], length, replicate};
+ghost use Rattle.octets.specs.Octets.{slices};
 ghost use Rattle.rules.specs.Layout.{pdr_width, endpoint_width, session_width};
 ghost use Rattle.rules.specs.Limits.{max_sessions, max_addresses, address_words};
 ghost use Rattle.marking.specs.Walk.{joins};
 ghost use Rattle.unit.specs.Meaning.{settings_of};
-ghost use Rattle.records.specs.Kept.{pdr_sound, endpoint_sound, endpoint_ids};
+ghost use Rattle.records.specs.Kept.{pdr_sound, endpoint_sound, ids_of};
 ghost use Rattle.records.specs.Slot.{area_sound};
-ghost use Rattle.marking.specs.Marking.{Tallied, holds_teid, alike, held_by, hold_at, endpoint_hold, pdr_holds, endpoint_holds, Stepped, Marked, Admitted, SessionClaimed, AllAdmitted};
+ghost use Rattle.marking.specs.Marking.{Tallied, holds_teid, alike, held_by, holds_in, pdr_hold, endpoint_hold, pdr_holds, endpoint_holds, Stepped, Marked, Admitted, SessionClaimed, AllAdmitted};
 ghost use Rattle.marking.specs.Offsets.{Agrees};
 
 use format::{
@@ -30,51 +30,36 @@ pub mod addresses;
 pub struct Broken;
 
 // Whether a PDR's slot holds a TEID. Nearly all have another number there, so that is looked at first, and no branch goes by what they match on.
-pub fn holds(slot: &[u8], teid: u64) -> bool
-    requires { length slot.now ≡ pdr_width }
+#[tactic(auto, unfolding(crate::specs::Marking::holds_teid, octets::specs::Octets::octet_at))]
+pub fn holds(slot: &[u8; PDR], teid: u64) -> bool
     ensures { result ≡ holds_teid slot.now teid }
 {
-    if octets::read(slot, TEID, 4) != teid {
-        return false;
-    }
-    slot[MATCH] == 1
+    octets::read(slot, TEID, 4) == teid && slot[MATCH] == 1
 }
 
 // Whether two PDRs have equal families and source interface.
-fn same_kind(a: &[u8], b: &[u8]) -> bool
-    requires { (length a.now ≡ pdr_width) × (length b.now ≡ pdr_width) }
+#[tactic(auto, unfolding(crate::specs::Marking::alike, octets::specs::Octets::octet_at))]
+fn same_kind(a: &[u8; PDR], b: &[u8; PDR]) -> bool
     ensures { result ≡ alike a.now b.now }
 {
-    if a[FAMILIES] % 4 != b[FAMILIES] % 4 {
-        return false;
-    }
-    a[SOURCE] == b[SOURCE]
+    a[FAMILIES] % 4 == b[FAMILIES] % 4 && a[SOURCE] == b[SOURCE]
 }
 
-// Whether the PDR in slot may share its TEID with one of the n PDRs. It is looked for from the last on: PDRs that share one are mostly made
+// Whether the PDR in slot may share its TEID with one of those before it. It is looked for from the last on: PDRs that share one are mostly made
 // one after the other.
-fn shares(pdrs: &[u8], n: usize, slot: &[u8]) -> bool
-    requires { (n * pdr_width ≤ length pdrs.now) × (length slot.now ≡ pdr_width) }
-    ensures { result ≡ joins (pdr_holds n pdrs.now) (held_by slot.now) }
+fn shares(earlier: &[[u8; PDR]], slot: &[u8; PDR]) -> bool
+    ensures { result ≡ joins (holds_in earlier.now) (held_by slot.now) }
 {
     let teid = octets::read(slot, TEID, 4);
-    let mut i = n;
-    while 0 < i {
-        i -= 1;
-        let at = i * PDR;
-        let earlier = &pdrs[at..at + PDR];
-        if holds(earlier, teid) {
-            if same_kind(earlier, slot) {
-                return true;
-            }
-        }
-    }
-    false
+    earlier
+        .iter()
+        .rev()
+        .any(|row| holds(row, teid) && same_kind(row, slot))
 }
 
 // One endpoint: tested, and its TEID marked, which has to be new.
-fn admit_endpoint(words: &mut [u64], slot: &[u8], u: Settings) -> Result<usize, Broken>
-    requires { (length slot.now ≡ endpoint_width) × (u.first + u.size ≤ 2 ^ 32) × (u.size ≤ 64 * length words.old) }
+fn admit_endpoint(words: &mut [u64], slot: &[u8; ENDPOINT], u: Settings) -> Result<usize, Broken>
+    requires { (u.first + u.size ≤ 2 ^ 32) × (u.size ≤ 64 * length words.old) }
     ensures { Stepped (endpoint_sound (settings_of u) slot.now) u.first words.old [] (endpoint_hold slot.now) result words.new }
 {
     if !records::endpoint_sound(slot, u) {
@@ -88,43 +73,40 @@ fn admit_endpoint(words: &mut [u64], slot: &[u8], u: Settings) -> Result<usize, 
 }
 
 // The area of n endpoints, in one walk: each is tested and marked, their IDs ascend, and the room after them is zero.
-fn admit_endpoints(words: &mut [u64], ends: &[u8], n: usize, u: Settings) -> Result<usize, Broken>
-    requires { (n * endpoint_width ≤ length ends.now) × (u.first + u.size ≤ 2 ^ 32) × (u.size ≤ 64 * length words.old) }
-    ensures { Marked (area_sound (endpoint_sound (settings_of u)) endpoint_width 1 n ends.now) u.first words.old (endpoint_holds n ends.now) result words.new }
+fn admit_endpoints(words: &mut [u64], area: &[u8], n: usize, u: Settings) -> Result<usize, Broken>
+    requires { (n * endpoint_width ≤ length area.now) × (u.first + u.size ≤ 2 ^ 32) × (u.size ≤ 64 * length words.old) }
+    ensures { Marked (area_sound (endpoint_sound (settings_of u)) endpoint_width 1 n area.now) u.first words.old (endpoint_holds n area.now) result words.new }
 {
+    let (rows, _) = area.as_chunks::<ENDPOINT>();
     let mut new: usize = 0;
     let mut next: u64 = 0;
-    for i in 0..n {
-        let at = i * ENDPOINT;
-        let id = octets::read(ends, at, 1);
+    for row in &rows[..n] {
+        let id = octets::read(row, 0, 1);
         if id < next {
             return Err(Broken);
         }
-        new += admit_endpoint(words, &ends[at..at + ENDPOINT], u)?;
+        new += admit_endpoint(words, row, u)?;
         next = id + 1;
     }
     let used = n * ENDPOINT;
-    if !octets::is_zero(ends, used, ends.len() - used) {
+    if !octets::is_zero(area, used, area.len() - used) {
         return Err(Broken);
     }
     Ok(new)
 }
 
-// The PDR at place i: tested, and its TEID marked, if it has one. ends has the session's m endpoints.
+// A PDR, after those before it: tested, and its TEID marked, if it has one. ends has the session's endpoints.
 fn admit_pdr(
     words: &mut [u64],
-    pdrs: &[u8],
-    i: usize,
-    ends: &[u8],
-    m: usize,
+    earlier: &[[u8; PDR]],
+    slot: &[u8; PDR],
+    ends: &[[u8; ENDPOINT]],
     u: Settings,
 ) -> Result<usize, Broken>
-    requires { ((i + 1) * pdr_width ≤ length pdrs.now) × (m * endpoint_width ≤ length ends.now) × (u.first + u.size ≤ 2 ^ 32) × (u.size ≤ 64 * length words.old) }
-    ensures { Stepped (pdr_sound (settings_of u) (endpoint_ids m ends.now) (part (i * pdr_width) pdr_width pdrs.now)) u.first words.old (pdr_holds i pdrs.now) (hold_at pdrs.now i) result words.new }
+    requires { (u.first + u.size ≤ 2 ^ 32) × (u.size ≤ 64 * length words.old) }
+    ensures { Stepped (pdr_sound (settings_of u) (ids_of ends.now) slot.now) u.first words.old (holds_in earlier.now) (pdr_hold slot.now) result words.new }
 {
-    let at = i * PDR;
-    let slot = &pdrs[at..at + PDR];
-    if !records::pdr_sound(slot, ends, m, u) {
+    if !records::pdr_sound(slot, ends, u) {
         return Err(Broken);
     }
     if slot[MATCH] != 1 {
@@ -134,7 +116,7 @@ fn admit_pdr(
     if !pool::mark(words, (teid - u.first) as usize) {
         return Ok(1);
     }
-    if shares(pdrs, i, slot) {
+    if shares(earlier, slot) {
         return Ok(0);
     }
     Err(Broken)
@@ -143,35 +125,35 @@ fn admit_pdr(
 // The area of n PDRs, in one walk: each is tested and marked, their IDs ascend, and the room after them is zero.
 fn admit_pdrs(
     words: &mut [u64],
-    pdrs: &[u8],
+    area: &[u8],
     n: usize,
-    ends: &[u8],
-    m: usize,
+    ends: &[[u8; ENDPOINT]],
     u: Settings,
 ) -> Result<usize, Broken>
-    requires { (n * pdr_width ≤ length pdrs.now) × (m * endpoint_width ≤ length ends.now) × (u.first + u.size ≤ 2 ^ 32) × (u.size ≤ 64 * length words.old) }
-    ensures { Marked (area_sound (pdr_sound (settings_of u) (endpoint_ids m ends.now)) pdr_width 2 n pdrs.now) u.first words.old (pdr_holds n pdrs.now) result words.new }
+    requires { (n * pdr_width ≤ length area.now) × (u.first + u.size ≤ 2 ^ 32) × (u.size ≤ 64 * length words.old) }
+    ensures { Marked (area_sound (pdr_sound (settings_of u) (ids_of ends.now)) pdr_width 2 n area.now) u.first words.old (pdr_holds n area.now) result words.new }
 {
+    let (rows, _) = area.as_chunks::<PDR>();
     let mut new: usize = 0;
     let mut next: u64 = 0;
-    for i in 0..n {
-        let id = octets::read(pdrs, i * PDR, 2);
+    for (i, row) in rows[..n].iter().enumerate() {
+        let id = octets::read(row, 0, 2);
         if id < next {
             return Err(Broken);
         }
-        new += admit_pdr(words, pdrs, i, ends, m, u)?;
+        new += admit_pdr(words, &rows[..i], row, ends, u)?;
         next = id + 1;
     }
     let used = n * PDR;
-    if !octets::is_zero(pdrs, used, pdrs.len() - used) {
+    if !octets::is_zero(area, used, area.len() - used) {
         return Err(Broken);
     }
     Ok(new)
 }
 
-// Tests a session's slot and marks its TEIDs. A slot that is broken, or holds a TEID against the rule, is a clash.
-fn admit(words: &mut [u64], slot: &[u8], u: Settings) -> Result<usize, Broken>
-    requires { (length slot.now ≡ session_width) × (u.first + u.size ≤ 2 ^ 32) × (u.size ≤ 64 * length words.old) }
+// Tests a session's slot and marks its TEIDs. A slot that is broken, or holds a TEID against the rule, is refused.
+fn admit(words: &mut [u64], slot: &[u8; SLOT], u: Settings) -> Result<usize, Broken>
+    requires { (u.first + u.size ≤ 2 ^ 32) × (u.size ≤ 64 * length words.old) }
     ensures { Admitted (settings_of u) words.old slot.now result words.new }
 {
     if !records::slot::head_sound(slot) {
@@ -180,17 +162,12 @@ fn admit(words: &mut [u64], slot: &[u8], u: Settings) -> Result<usize, Broken>
     if !records::slot::csids_sound(&slot[CSIDS..SLOT], slot[CSID_COUNT] as usize) {
         return Err(Broken);
     }
-    let ends = &slot[ENDPOINTS..CSIDS];
     let m = slot[ENDPOINT_COUNT] as usize;
-    let e = admit_endpoints(words, ends, m, u)?;
-    let p = admit_pdrs(
-        words,
-        &slot[PDRS..ENDPOINTS],
-        slot[PDR_COUNT] as usize,
-        ends,
-        m,
-        u,
-    )?;
+    let area = &slot[ENDPOINTS..CSIDS];
+    let e = admit_endpoints(words, area, m, u)?;
+    let (ends, _) = area.as_chunks::<ENDPOINT>();
+    let n = slot[PDR_COUNT] as usize;
+    let p = admit_pdrs(words, &slot[PDRS..ENDPOINTS], n, &ends[..m], u)?;
     Ok(e + p)
 }
 
@@ -206,11 +183,11 @@ fn admit_session(
     words: &mut [u64],
     holders: &mut [u16],
     addresses: &mut [u64],
-    slot: &[u8],
+    slot: &[u8; SLOT],
     turn: u16,
     u: Settings,
 ) -> Result<New, Broken>
-    requires { (length slot.now ≡ session_width) × (u.first + u.size ≤ 2 ^ 32) × (u.size ≤ 64 * length words.old) × (u.first_address + u.addresses ≤ 2 ^ 32) × (u.addresses ≤ 64 * length addresses.old) × (1 ≤ turn) × (turn ≤ max_sessions) × Agrees (turn - 1) u.addresses holders.old addresses.old }
+    requires { (u.first + u.size ≤ 2 ^ 32) × (u.size ≤ 64 * length words.old) × (u.first_address + u.addresses ≤ 2 ^ 32) × (u.addresses ≤ 64 * length addresses.old) × (1 ≤ turn) × (turn ≤ max_sessions) × Agrees (turn - 1) u.addresses holders.old addresses.old }
     ensures { SessionClaimed (settings_of u) turn words.old addresses.old slot.now result words.new holders.new addresses.new }
 {
     let teids = admit(words, slot, u)?;
@@ -263,9 +240,8 @@ pub fn admit_all(
         first: 0,
         taken: 0,
     };
-    for i in 0..n {
-        let at = i * SLOT;
-        let slot = &a[at..at + SLOT];
+    let (rows, _) = a.as_chunks::<SLOT>();
+    for (i, slot) in rows[..n].iter().enumerate() {
         let new = admit_session(words, &mut holders, addresses, slot, (i + 1) as u16, u)?;
         sum = added(sum, new, slot[0]);
     }

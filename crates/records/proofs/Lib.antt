@@ -7,4 +7,5 @@ pub mod Slots
 pub mod Answers
 pub mod Areas
 pub mod SlotLaws
+pub mod Chunks
 pub mod Turns

@@ -26,7 +26,7 @@ use Rattle.rules.specs.Sound.{pdr_allowed, endpoint_allowed, csid_allowed, agree
 use Rattle.laws.proofs.KeptRules.{records_kept, records_allowed_lem}
 use Rattle.laws.proofs.LayoutLaws.{length_area, length_pdr, length_endpoint, length_csid}
 use Rattle.areas.specs.Records.{key_of}
-use Rattle.records.specs.Kept.{kept, pdr_sound, endpoint_sound, csid_sound, endpoint_ids}
+use Rattle.records.specs.Kept.{kept, pdr_sound, endpoint_sound, csid_sound, endpoint_ids, ids_of}
 use Rattle.records.specs.Slot.{pdr_area, endpoint_area, csid_area, head_sound, slot_tests, slot_sound, area_sound}
 use Rattle.records.proofs.Areas.{slices_take, area_from, area_to}
 use Rattle.areas.proofs.PairLaws.{number_pair}
@@ -213,7 +213,7 @@ module _ (xs : List ℕ) (long : length xs ≡ session_width) where
       csids_up_lem : T (ascending (map node_type_of (map view_csid (slices csid_width (get_or xs csid_count_at 0) (csid_area xs)))))
 
     facts_from : T (records_allowed s (slot_of xs)) → Facts
-    unfolding slot_of live endpoint_ids
+    unfolding slot_of live endpoint_ids ids_of slices
     facts_from h =
         let t = records_kept s (slot_of xs) h in
         record {
@@ -228,7 +228,7 @@ module _ (xs : List ℕ) (long : length xs ≡ session_width) where
         }
 
     facts_to : Facts → T (records_allowed s (slot_of xs))
-    unfolding slot_of live endpoint_ids
+    unfolding slot_of live endpoint_ids ids_of slices
     facts_to f =
         let below : number (part seid_at 8 xs) < 256 ^ 8 = rw (length_part seid_at 8 xs (omega arith)) at (number_below (part seid_at 8 xs) (part_octets seid_at 8 xs o)) in
         records_allowed_lem (record {

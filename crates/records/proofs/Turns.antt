@@ -4,23 +4,21 @@ use mathlib.Core.Path.{◌≡◌, refl, sym, ap, ◌∙◌}
 use Prim.Native.Nat.{ℕ, suc, ◌+◌, ◌-◌, ◌*◌, ◌≤◌, ◌<◌, zero-le}
 use native.Mathlib.Numerals.{add-one}
 use native.Mathlib.Omega.{arith}
-use mathlib.Core.Bool.{Bool, true, false, not, ◌&&◌}
+use mathlib.Core.Bool.{Bool, true, false, ◌&&◌}
 use mathlib.Core.List.{List, [], ◌∷◌, map}
-use borrow.Author.Tests.{lt-ltb, le-ltb, le-leb, lt-leb, not-true, not-false, leb-true, leb-false, eq-eqb, ne_eqb}
+use borrow.Author.Tests.{lt-ltb, le-ltb, le-leb, lt-leb, leb-true, leb-false}
 use lib.ListN.{length, take, drop, get_or, drop_of_length-le, length-drop}
-use lib.Seq.{drop-cons, drop-drop, take_all, take-take}
+use lib.Seq.{drop-cons, drop-drop, take_all}
 use lib.Dec.{leb, ltb}
-use Rattle.rules.specs.Model.{Settings, is_peer}
-use Rattle.octets.specs.Octets.{part, number, number_at, octet_at, slices, all_zero}
+use Rattle.rules.specs.Model.{Settings}
+use Rattle.octets.specs.Octets.{part, number, octet_at, slices, all_zero}
 use Rattle.octets.specs.Lists.{all, ascending}
 use Rattle.octets.proofs.Bools.{and-false, and-true, and_four, and_assoc}
-use Rattle.rules.specs.Layout.{pdr_width, endpoint_width, csid_width, pdr_count_at, endpoint_count_at, csid_count_at, seid_at}
-use Rattle.rules.specs.Limits.{max_pdrs, max_endpoints, node_types}
+use Rattle.rules.specs.Layout.{pdr_width, endpoint_width, csid_width, pdr_count_at, endpoint_count_at, csid_count_at}
 use Rattle.areas.specs.Records.{key_of, pair_key}
-use Rattle.areas.proofs.LookupLaws.{keys, key_at, length_keys}
+use Rattle.areas.proofs.LookupLaws.{keys, length_keys}
 use Rattle.records.specs.Kept.{pdr_sound, endpoint_sound, csid_sound, endpoint_ids}
-use Rattle.records.specs.Slot.{area_sound, head_sound, slot_tests, slot_sound, pdr_area, endpoint_area, csid_area, counts_sound}
-use Rattle.octets.proofs.Ordered.{orders}
+use Rattle.records.specs.Slot.{area_sound, head_sound, slot_tests, slot_sound, pdr_area, endpoint_area, csid_area}
 use Rattle.areas.proofs.PairLaws.{pair_at}
 
 -- ---- ascending keys
@@ -35,34 +33,37 @@ ascending_next ks i h =
     let second = next ks (i + 1) h in
     ap ascending (first ∙ ap (λ (l : List ℕ). get_or ks i 0 ∷ l) second) ∙ ap (λ (l : List ℕ). ltb (get_or ks i 0) (get_or ks (i + 1) 0) && ascending l) (sym second)
 
--- What holds in the loop: the key at i is the last one read, and what is left from there gives the same answer.
+-- What holds in the loop: the key before place i is the last one read, and what is left from there gives the same answer.
 pub record Rising (ks : List ℕ) (n i last : ℕ) : Type 0 where
   pub size : length ks ≡ n
-  pub within : i < n
-  pub at : last ≡ get_or ks i 0
-  pub rest : ascending (drop i ks) ≡ ascending ks
+  pub some : 1 ≤ i
+  pub within : i ≤ n
+  pub at : last ≡ get_or ks (i - 1) 0
+  pub rest : ascending (drop (i - 1) ks) ≡ ascending ks
 
 module _ {ks : List ℕ} {n : ℕ} where
-  pub rising_first : (last : ℕ) → length ks ≡ n → 0 < n → last ≡ get_or ks 0 0 → Rising ks n 0 last
-  rising_first last e h q = record { size = e; within = h; at = q; rest = refl }
+  pub rising_first : (last : ℕ) → length ks ≡ n → 0 < n → last ≡ get_or ks 0 0 → Rising ks n 1 last
+  rising_first last e h q = record { size = e; some = omega arith; within = omega arith; at = q; rest = refl }
 
-  module _ {i last key : ℕ} (r : Rising ks n i last) (h : i < n - 1) (e : key ≡ get_or ks (i + 1) 0) where
+  module _ {i last key : ℕ} (r : Rising ks n i last) (h : i < n) (e : key ≡ get_or ks i 0) where
+    here : ascending (drop (i - 1) ks) ≡ (ltb last key && ascending (drop i ks))
+    here =
+        let back : i - 1 + 1 ≡ i = omega (arith, r.some) in
+        ascending_next ks (i - 1) (omega (arith, r.size, r.some)) ∙ rw (back, ← r.at, ← e)
+
     pub rising_more : last < key → Rising ks n (i + 1) key
-    rising_more l = record {
-      size = r.size;
-      within = omega arith;
-      at = e;
-      rest = sym (ascending_next ks i (omega (arith, r.size)) ∙ rw (← r.at, ← e, lt-ltb last key l)) ∙ r.rest;
-    }
+    rising_more l =
+        let next : i + 1 - 1 ≡ i = omega arith in
+        record { size = r.size; some = omega arith; within = omega arith; at = rw next e; rest = rw next (sym (here ∙ rw (lt-ltb last key l)) ∙ r.rest) }
 
     pub rising_not : key ≤ last → false ≡ ascending ks
-    rising_not l = sym (sym r.rest ∙ ascending_next ks i (omega (arith, r.size)) ∙ rw (← r.at, ← e, le-ltb last key l))
+    rising_not l = sym (sym r.rest ∙ here ∙ rw (le-ltb last key l))
 
-  pub rising_end : {i last : ℕ} → Rising ks n i last → n - 1 ≤ i → true ≡ ascending ks
+  pub rising_end : {i last : ℕ} → Rising ks n i last → n ≤ i → true ≡ ascending ks
   unfolding ascending
   rising_end {i} {last} r h =
-      let end : drop (i + 1) ks ≡ [] = drop_of_length-le ks {i = i + 1} (omega (arith, r.size, r.within)) in
-      sym (sym r.rest ∙ ap ascending (next ks i (omega (arith, r.size, r.within)) ∙ ap (λ (l : List ℕ). get_or ks i 0 ∷ l) end))
+      let end : drop (i - 1 + 1) ks ≡ [] = drop_of_length-le ks {i = i - 1 + 1} (omega (arith, r.size, r.within, r.some)) in
+      sym (sym r.rest ∙ ap ascending (next ks (i - 1) (omega (arith, r.size, r.within, r.some)) ∙ ap (λ (l : List ℕ). get_or ks (i - 1) 0 ∷ l) end))
 
 -- ---- one walk over an area: each record is tested, and its key compared with the least that it may be
 
@@ -122,10 +123,10 @@ module _ (p : List ℕ → Bool) (w k : ℕ) (a : List ℕ) (n : ℕ) where
     pub rows_bad : p (part (i * w) w a) ≡ false → area_sound p w k n a ≡ false
     rows_bad e = area_not (sym r.rest ∙ turn ∙ rw e)
 
-    module _ (narrow : k ≤ w) (key : ℕ) (q : key ≡ number (part (i * w) k a)) where
+    module _ (key : ℕ) (q : key ≡ number (take k (part (i * w) w a))) where
       key_is : key_of k (part (i * w) w a) ≡ key
       unfolding key_of
-      key_is = ap number (take-take k w (drop (i * w) a) narrow) ∙ sym q
+      key_is = sym q
 
       pub rows_low : key < next → area_sound p w k n a ≡ false
       rows_low l = area_not (sym r.rest ∙ turn ∙ rw (key_is, lt-leb next key l, and-false (p (part (i * w) w a))))
@@ -146,76 +147,21 @@ module _ (p : List ℕ → Bool) (w k : ℕ) (a : List ℕ) (n : ℕ) where
 pub record_read : (p : List ℕ → Bool) (w i : ℕ) (a : List ℕ) (b : Bool) → b ≡ p (take (i * w + w - i * w) (drop (i * w) a)) → b ≡ p (part (i * w) w a)
 record_read p w i a b e = let span : i * w + w - i * w ≡ w = omega arith in rw span at e
 
--- keys and the room after the records
-module _ (w k n : ℕ) (a : List ℕ) (r : Bool) (e : r ≡ ascending (keys w k n a)) where
-  pub order_bad : not r ≡ true → false ≡ (ascending (keys w k n a) && all_zero (drop (n * w) a))
-  order_bad h = sym (rw (← e, not-true r h))
-
-  pub order_good : (z : Bool) → not r ≡ false → n * w ≤ length a → z ≡ all_zero (part (n * w) (length a - n * w) a) → z ≡ (ascending (keys w k n a) && all_zero (drop (n * w) a))
-  order_good z h l q =
-      let all : part (n * w) (length a - n * w) a ≡ drop (n * w) a = take_all (length a - n * w) (drop (n * w) a) (rw length-drop (omega arith)) in
-      q ∙ sym (rw (← e, not-false r h, all))
-
--- ---- a slot's head
-
--- a peer is 1 or 2
-pub peer_none : (n : ℕ) → n < 1 → false ≡ is_peer n
-unfolding is_peer
-peer_none n h = sym (rw (ne_eqb n 1 (λ e. omega arith), ne_eqb n 2 (λ e. omega arith)))
-
-pub peer_some : (n : ℕ) → 1 ≤ n → leb n 2 ≡ is_peer n
-unfolding is_peer
-peer_some n h =
-    orders n 2
-    (λ g. le-leb n 2 g ∙ orders n 1 (λ j. let e : n ≡ 1 = omega arith in sym (rw (eq-eqb n 1 e))) (λ j. let e : n ≡ 2 = omega arith in sym (rw (ne_eqb n 1 (λ k. omega arith), eq-eqb n 2 e))))
-    (λ g. lt-leb n 2 g ∙ sym (rw (ne_eqb n 1 (λ e. omega arith), ne_eqb n 2 (λ e. omega arith))))
-
-module _ (xs : List ℕ) (b : Bool) (p : b ≡ is_peer (get_or xs 0 0)) where
-  pub head_peer : not b ≡ true → false ≡ head_sound xs
-  unfolding head_sound octet_at
-  head_peer h = sym (rw (← p, not-true b h))
-
-  module _ (k : not b ≡ false) where
-    pub head_seid : (v : ℕ) → v ≡ number (part seid_at 8 xs) → v < 1 → false ≡ head_sound xs
-    unfolding head_sound number_at octet_at
-    head_seid v q h = sym (rw (← p, not-false b k, ← q, lt-leb 1 v h))
-
-    pub head_counts : (v : ℕ) (r : Bool) → v ≡ number (part seid_at 8 xs) → 1 ≤ v → r ≡ counts_sound xs → r ≡ head_sound xs
-    unfolding head_sound counts_sound number_at octet_at
-    head_counts v r q g e = e ∙ sym (rw (← p, not-false b k, ← q, le-leb 1 v g))
-
-module _ (xs : List ℕ) where
-  pub counts_pdrs : max_pdrs < get_or xs pdr_count_at 0 → false ≡ counts_sound xs
-  unfolding counts_sound octet_at
-  counts_pdrs h = sym (rw (lt-leb (get_or xs pdr_count_at 0) max_pdrs h))
-
-  pub counts_endpoints : get_or xs pdr_count_at 0 ≤ max_pdrs → max_endpoints < get_or xs endpoint_count_at 0 → false ≡ counts_sound xs
-  unfolding counts_sound octet_at
-  counts_endpoints c h = sym (rw (le-leb (get_or xs pdr_count_at 0) max_pdrs c, lt-leb (get_or xs endpoint_count_at 0) max_endpoints h))
-
-  pub counts_csids : get_or xs pdr_count_at 0 ≤ max_pdrs → get_or xs endpoint_count_at 0 ≤ max_endpoints → leb (get_or xs csid_count_at 0) node_types ≡ counts_sound xs
-  unfolding counts_sound octet_at
-  counts_csids c d = sym (rw (le-leb (get_or xs pdr_count_at 0) max_pdrs c, le-leb (get_or xs endpoint_count_at 0) max_endpoints d) (and-true (leb (get_or xs csid_count_at 0) node_types)))
-
 pub ascends_none : (w k n : ℕ) (a : List ℕ) → n ≡ 0 → true ≡ ascending (keys w k n a)
 unfolding slices ascending
 ascends_none w k n a e = rw e
 
--- the key read at i
-pub key_read : (w k n i r : ℕ) (a : List ℕ) → k ≤ w → i < n → r ≡ number (part (i * w) k a) → r ≡ get_or (keys w k n a) i 0
-key_read w k n i r a h l q = q ∙ sym (key_at w k n i a h l)
-
 -- ---- keys of nine octets
 
-pub rising_from : (w n : ℕ) (a : List ℕ) (y z : ℕ) → 9 ≤ w → n * w ≤ length a → 0 < n → y ≡ number (part 0 1 a) → z ≡ number (part 1 8 a) → Rising (keys w 9 n a) n 0 (pair_key y z)
+pub rising_from : (w n : ℕ) (a : List ℕ) (y z : ℕ) → 9 ≤ w → n * w ≤ length a → 0 < n → y ≡ number (part 0 1 a) → z ≡ number (part 1 8 a) → Rising (keys w 9 n a) n 1 (pair_key y z)
 rising_from w n a y z wide long h e f =
     let none : 0 * w ≡ 0 = omega arith in
     rising_first (pair_key y z) (length_keys w 9 n a) h (pair_at w n 0 a y z wide long h (rw none e) (rw none f))
 
-module _ (w n i : ℕ) (a : List ℕ) (y z high last : ℕ) (wide : 9 ≤ w) (long : n * w ≤ length a) (r : Rising (keys w 9 n a) n i (pair_key high last)) (h : i < n - 1)
-    (e : y ≡ number (part ((i + 1) * w) 1 a)) (f : z ≡ number (part ((i + 1) * w + 1) 8 a)) (b : Bool) (q : b ≡ leb (pair_key y z) (pair_key high last)) where
-  key : pair_key y z ≡ get_or (keys w 9 n a) (i + 1) 0
-  key = pair_at w n (i + 1) a y z wide long (omega arith) e f
+module _ (w n i : ℕ) (a : List ℕ) (y z high last : ℕ) (wide : 9 ≤ w) (long : n * w ≤ length a) (r : Rising (keys w 9 n a) n i (pair_key high last)) (h : i < n)
+    (e : y ≡ number (part (i * w) 1 a)) (f : z ≡ number (part (i * w + 1) 8 a)) (b : Bool) (q : b ≡ leb (pair_key y z) (pair_key high last)) where
+  key : pair_key y z ≡ get_or (keys w 9 n a) i 0
+  key = pair_at w n i a y z wide long h e f
 
   pub rising_pair : b ≡ false → Rising (keys w 9 n a) n (i + 1) (pair_key y z)
   rising_pair g = rising_more r h key (leb-false (pair_key y z) (pair_key high last) (sym q ∙ g))

@@ -27,9 +27,12 @@ endpoint_sound s xs = kept (endpoint_allowed s) endpoint_octets view_endpoint xs
 unfoldable pub csid_sound : List ℕ → Bool
 csid_sound xs = kept csid_allowed csid_octets view_csid xs
 
--- the IDs of the first n endpoints in octets
+-- the IDs of endpoints' slots, and of the first n endpoints in octets
+unfoldable pub ids_of : List (List ℕ) → List ℕ
+ids_of rows = map endpoint_id (map view_endpoint rows)
+
 unfoldable pub endpoint_ids : ℕ → List ℕ → List ℕ
-endpoint_ids n a = map endpoint_id (map view_endpoint (slices endpoint_width n a))
+endpoint_ids n a = ids_of (slices endpoint_width n a)
 
 -- whether the unit has an IPv6 address
 abbrev pub has_ipv6 : Settings → Bool

@@ -11,14 +11,7 @@ ghost use Rattle.areas.specs.Records.{key_of};
 ghost use Rattle.records.specs.Kept.{csid_sound};
 ghost use Rattle.records.specs.Slot.{area_sound, counts_sound, head_sound};
 
-use format::{CSID, CSID_COUNT, ENDPOINT_COUNT, MAX_CSIDS, MAX_ENDPOINTS, MAX_PDRS, PDR_COUNT};
-
-// The limits as a slot counts its records, in one octet each.
-const MOST_PDRS: u8 = MAX_PDRS as u8;
-
-const MOST_ENDPOINTS: u8 = MAX_ENDPOINTS as u8;
-
-const MOST_CSIDS: u8 = MAX_CSIDS as u8;
+use format::{CSID, CSID_COUNT, ENDPOINT_COUNT, MAX_CSIDS, MAX_ENDPOINTS, MAX_PDRS, PDR_COUNT, SLOT};
 
 // Whether the keys of n records ascend. A key is the first nine octets of a record of w.
 fn ascends(a: &[u8], w: usize, n: usize) -> bool
@@ -28,11 +21,9 @@ fn ascends(a: &[u8], w: usize, n: usize) -> bool
     if n == 0 {
         return true;
     }
-    let mut i = 0;
     let mut high = octets::read(a, 0, 1);
     let mut last = octets::read(a, 1, 8);
-    while i < n - 1 {
-        i += 1;
+    for i in 1..n {
         let at = i * w;
         let y = octets::read(a, at, 1);
         let z = octets::read(a, at + 1, 8);
@@ -50,11 +41,8 @@ pub fn ordered(a: &[u8], w: usize, n: usize) -> bool
     requires { (n * w ≤ length a.now) × (9 ≤ w) }
     ensures { result ≡ (ascending (map (key_of 9) (slices w n a.now)) && all_zero (drop (n * w) a.now)) }
 {
-    if !ascends(a, w, n) {
-        return false;
-    }
     let used = n * w;
-    octets::is_zero_long(a, used, a.len() - used)
+    ascends(a, w, n) && octets::is_zero_long(a, used, a.len() - used)
 }
 
 // The area of n FQ-CSIDs, in one walk: each is tested, their node types ascend, and the room after them is zero.
@@ -62,14 +50,11 @@ pub fn csids_sound(a: &[u8], n: usize) -> bool
     requires { n * csid_width ≤ length a.now }
     ensures { result ≡ area_sound csid_sound csid_width 1 n a.now }
 {
+    let (rows, _) = a.as_chunks::<CSID>();
     let mut next: u64 = 0;
-    for i in 0..n {
-        let at = i * CSID;
-        let node = octets::read(a, at, 1);
-        if node < next {
-            return false;
-        }
-        if !crate::csid_sound(&a[at..at + CSID]) {
+    for row in &rows[..n] {
+        let node = octets::read(row, 0, 1);
+        if node < next || !crate::csid_sound(row) {
             return false;
         }
         next = node + 1;
@@ -78,40 +63,13 @@ pub fn csids_sound(a: &[u8], n: usize) -> bool
     octets::is_zero(a, used, a.len() - used)
 }
 
-// Whether a number is a peer's.
-fn is_peer(n: u8) -> bool
-    ensures { result ≡ is_peer n }
-{
-    if n < 1 {
-        return false;
-    }
-    n <= 2
-}
-
 // The peer, the SEID and the numbers of records.
-pub fn head_sound(slot: &[u8]) -> bool
-    requires { length slot.now ≡ session_width }
+pub fn head_sound(slot: &[u8; SLOT]) -> bool
     ensures { result ≡ head_sound slot.now }
 {
-    if !is_peer(slot[0]) {
-        return false;
-    }
-    if octets::read(slot, format::SEID, 8) < 1 {
-        return false;
-    }
-    counts_sound(slot)
-}
-
-// The numbers of records.
-fn counts_sound(slot: &[u8]) -> bool
-    requires { length slot.now ≡ session_width }
-    ensures { result ≡ counts_sound slot.now }
-{
-    if MOST_PDRS < slot[PDR_COUNT] {
-        return false;
-    }
-    if MOST_ENDPOINTS < slot[ENDPOINT_COUNT] {
-        return false;
-    }
-    slot[CSID_COUNT] <= MOST_CSIDS
+    unit::is_peer(slot[0] as u32)
+        && 1 <= octets::read(slot, format::SEID, 8)
+        && slot[PDR_COUNT] as usize <= MAX_PDRS
+        && slot[ENDPOINT_COUNT] as usize <= MAX_ENDPOINTS
+        && slot[CSID_COUNT] as usize <= MAX_CSIDS
 }

@@ -8,7 +8,7 @@ use mathlib.Core.List.{List, [], ◌∷◌, map}
 use borrow.Author.Tests.{eq-eqb, ne_eqb, le-leb, lt-leb, not-true, not-false}
 use lib.ListN.{length, drop, replicate, length-drop}
 use lib.Seq.{take_all}
-use lib.Dec.{T, leb, ltb, leb→le, lt→ltb}
+use lib.Dec.{T, eqb, leb, ltb, leb→le, lt→ltb}
 use Rattle.octets.specs.Choice.{pick}
 use Rattle.octets.specs.Octets.{part, number, slices, all_zero, octets}
 use Rattle.octets.specs.Lists.{all, all_pairs, ascending, distinct}
@@ -37,7 +37,7 @@ use Rattle.marking.specs.declared.Broken.{Broken}
 use Rattle.marking.specs.declared.Tally.{Tally}
 use Rattle.marking.specs.Refusal.{refusal}
 use Rattle.marking.specs.Marking.{teids_in, addresses_in, new_by, slots_by, AllAdmitted}
-use Rattle.table.specs.Tests.{limit_of, slots_of, order_sound, front_tests, front_sound, walk_sound, peers_sound, sessions_fit, teids_fit}
+use Rattle.table.specs.Tests.{limit_of, session_count, slots_of, order_sound, front_tests, front_sound, walk_sound, peers_sound, sessions_fit, teids_fit}
 use Rattle.table.specs.Answers.{Examined, counted, examined, count_told}
 use Rattle.table.proofs.SoundLaws.{settings_front, settings_from, sessions_are, count_are, sound_law, walk_says, front_kept}
 use Rattle.table.proofs.Walks.{teids_are, addresses_are, by_peer, slots_by_lem}
@@ -60,28 +60,18 @@ module _ (t : List ℕ) where
     room : u.limit ≡ limit_of t
     room = limit_is u (view_settings t) is
 
-    module _ (r : Bool) (q : r ≡ settings_sound (part 0 settings_width t)) where
-      pub front_settings : not r ≡ true → false ≡ front_sound t
-      unfolding front_sound front_tests
-      front_settings h = sym (rw (← q, not-true r h))
+    pub front_room : settings_sound (part 0 settings_width t) ≡ true → u.limit ≤ max_sessions
+    front_room e = omega (arith, room, limit_most (view_settings t) (settings_from t (of_true e)).0)
 
-      module _ (h : not r ≡ false) where
-        pub front_room : u.limit ≤ max_sessions
-        front_room = omega (arith, room, limit_most (view_settings t) (settings_from t (of_true (sym q ∙ not-false r h))).0)
-
-        pub front_length : (length t ≡ table_length u.limit → ⊥) → false ≡ front_sound t
-        unfolding front_sound front_tests
-        front_length g = sym (rw (← room, ← q, not-false r h, ne_eqb (length t) (table_length u.limit) g))
-
-        module _ (long : length t ≡ table_length u.limit) (n : ℕ) (e : n ≡ number (part settings_width 2 t)) where
-          pub front_count : u.limit < n → false ≡ front_sound t
-          unfolding front_sound front_tests
-          front_count l = sym (rw (← room, ← q, not-false r h, eq-eqb (length t) (table_length u.limit) long, ← e, lt-leb n u.limit l))
-
-          pub front_order : (o : Bool) → n ≤ u.limit → o ≡ (ascending (map (key_of key_width) (slices session_width n (part head_width (length t - head_width) t))) && all_zero (drop (n * session_width) (part head_width (length t - head_width) t))) → o ≡ front_sound t
-          unfolding front_sound front_tests order_sound
-          front_order o l p =
-              p ∙ sym (rw (← room, ← q, not-false r h, eq-eqb (length t) (table_length u.limit) long, ← e, le-leb n u.limit l, area_is) (and-true (ascending (map (key_of key_width) (slices session_width n (drop head_width t))) && all_zero (drop (n * session_width) (drop head_width t)))))
+    pub front_is : (n : ℕ) → n ≡ number (part settings_width 2 t)
+        → front_sound t
+        ≡ (settings_sound (part 0 settings_width t)
+        && (eqb (length t) (table_length u.limit)
+        && (leb n u.limit && (ascending (map (key_of key_width) (slices session_width n (part head_width (length t - head_width) t))) && all_zero (drop (n * session_width) (part head_width (length t - head_width) t))))))
+    unfolding front_sound front_tests order_sound
+    front_is n e =
+        rw (room, e, area_is)
+        (ap (λ (b : Bool). settings_sound (part 0 settings_width t) && (eqb (length t) (table_length (limit_of t)) && (leb (session_count t) (limit_of t) && b))) (and-true (ascending (map (key_of key_width) (slots_of t)) && all_zero (drop (session_count t * session_width) (drop head_width t)))))
 
 -- ---- what is known once the front is sound
 

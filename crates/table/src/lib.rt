@@ -21,17 +21,11 @@ fn front_sound(t: &[u8], u: Settings) -> bool
     requires { (head_width ≤ length t.now) × (settings_of u ≡ view_settings t.now) }
     ensures { result ≡ front_sound t.now }
 {
-    if !records::settings_sound(&t[0..SETTINGS], u) {
-        return false;
-    }
-    if t.len() != HEAD + u.limit as usize * SLOT {
-        return false;
-    }
     let n = octets::read(t, COUNT, 2);
-    if u.limit < n {
-        return false;
-    }
-    records::slot::ordered(&t[HEAD..], SLOT, n as usize)
+    records::settings_sound(t.first_chunk().unwrap(), u)
+        && t.len() == HEAD + u.limit as usize * SLOT
+        && n <= u.limit
+        && records::slot::ordered(&t[HEAD..], SLOT, n as usize)
 }
 
 // The more of what a peer holds and what it is guaranteed.

@@ -1,7 +1,6 @@
 -- `marking::admit_pdrs` meets its contract.
 -- Assumes nothing.
-use Rattle.std.proofs.Common.{◌-◌}
-use Rattle.records.specs.Kept.{pdr_sound, endpoint_ids}
+use Rattle.records.specs.Kept.{pdr_sound, ids_of}
 use Rattle.unit.specs.Meaning.{settings_of}
 use Rattle.marking.specs.Marking.{pdr_holds}
 use Rattle.marking.proofs.Walking.{Walk, pdrs_to, pdrs_from}
@@ -9,7 +8,4 @@ use Rattle.rules.specs.Layout.{pdr_width}
 use Rattle.marking.proofs.admit_pdrs.Given as goal
 
 abbrev pub invariant-loop-i : goal.invariant-loop-i
-invariant-loop-i l = Walk (pdr_sound (settings_of l.u) (endpoint_ids l.m l.ends)) pdr_width 2 l.pdrs l.n l.u.first l.initial.words (pdr_holds l.n l.pdrs) (pdrs_to l.u.first l.initial.words l.pdrs l.n) (pdrs_from l.u.first l.initial.words l.pdrs l.n) l.words l.i l.next l.new
-
-abbrev pub decreases-loop-i : goal.decreases-loop-i
-decreases-loop-i l = l.n - l.i
+invariant-loop-i l = Walk (pdr_sound (settings_of l.u) (ids_of l.ends)) pdr_width 2 l.fn.area l.n l.u.first l.initial.words (pdr_holds l.n l.fn.area) (pdrs_to l.u.first l.initial.words l.fn.area l.n) (pdrs_from l.u.first l.initial.words l.fn.area l.n) l.words l.i l.next l.new

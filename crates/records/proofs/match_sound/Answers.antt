@@ -1,19 +1,16 @@
 -- `records::match_sound` meets its contract.
 -- Assumes nothing.
-use Rattle.records.proofs.Answers.{match_both, match_tunnel, match_stray, match_named, match_none}
+use Rattle.std.proofs.Common.{arith}
+use Rattle.std.proofs.lemmas.Grind.{common_steps}
+use Rattle.records.specs.Kept.{ids_of}
+use Rattle.records.proofs.Answers.{stray, match_zero}
 use Rattle.records.proofs.match_sound.Goals as goal
 
-pub returns-then-id-ne0 : goal.returns-then-id-ne0
-returns-then-id-ne0 c = search match_both
+pub returns-then-is_zero : goal.returns-then-is_zero
+returns-then-is_zero c = grind (arith, common_steps, stray c.args.u (ids_of c.args.ends.now) c.args.slot.now)
 
-pub returns-then-kind-eq1 : goal.returns-then-kind-eq1
-returns-then-kind-eq1 c = search match_tunnel
+pub returns-else-is_zero : goal.returns-else-is_zero
+returns-else-is_zero c = grind (arith, common_steps, stray c.args.u (ids_of c.args.ends.now) c.args.slot.now)
 
-pub returns-then-not-is_zero : goal.returns-then-not-is_zero
-returns-then-not-is_zero c = search match_stray
-
-pub returns-then-kind-eq2 : goal.returns-then-kind-eq2
-returns-then-kind-eq2 c = search match_named
-
-pub returns : goal.returns
-returns c = search match_none
+pub returns-in_default : goal.returns-in_default
+returns-in_default c = grind (arith, common_steps, match_zero c.args.u (ids_of c.args.ends.now) c.args.slot.now)

@@ -1,27 +1,14 @@
 -- `records::pdr_sound` meets its contract.
 -- Assumes nothing.
-use lib.Dec.{T}
-use Rattle.octets.specs.Octets.{octets}
+use Rattle.std.proofs.Common.{arith}
+use Rattle.std.proofs.lemmas.Grind.{common_steps}
 use Rattle.octets.proofs.Digits.{octets_known}
-use Rattle.records.proofs.Answers.{pdr_source, pdr_far, pdr_address_lem, pdr_match}
+use Rattle.records.specs.Kept.{ids_of}
+use Rattle.records.proofs.Answers.{pdr_is}
 use Rattle.records.proofs.pdr_sound.Goals as goal
 
-pub returns-then-slot-gt15 : goal.returns-then-slot-gt15
-returns-then-slot-gt15 c =
-    let o : T (octets c.args.slot.now) = octets_known c.args.slot.now (λ i. (c.type_inv.slot i).fits) in
-    search pdr_source
+pub returns-then-match_sound : goal.returns-then-match_sound
+returns-then-match_sound c = grind (arith, common_steps, pdr_is c.args.u (ids_of c.args.ends.now) c.args.slot.now c.requires c.told-slot (octets_known c.args.slot.now c.fits-slot))
 
-pub returns-then-not-field_sound : goal.returns-then-not-field_sound
-returns-then-not-field_sound c =
-    let o : T (octets c.args.slot.now) = octets_known c.args.slot.now (λ i. (c.type_inv.slot i).fits) in
-    search pdr_far
-
-pub returns-then-not-field_sound-2 : goal.returns-then-not-field_sound-2
-returns-then-not-field_sound-2 c =
-    let o : T (octets c.args.slot.now) = octets_known c.args.slot.now (λ i. (c.type_inv.slot i).fits) in
-    search pdr_address_lem
-
-pub returns : goal.returns
-returns c =
-    let o : T (octets c.args.slot.now) = octets_known c.args.slot.now (λ i. (c.type_inv.slot i).fits) in
-    search pdr_match
+pub returns-else-match_sound : goal.returns-else-match_sound
+returns-else-match_sound c = grind (arith, common_steps, pdr_is c.args.u (ids_of c.args.ends.now) c.args.slot.now c.requires c.told-slot (octets_known c.args.slot.now c.fits-slot))

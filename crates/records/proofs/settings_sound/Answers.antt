@@ -1,17 +1,13 @@
 -- `records::settings_sound` meets its contract.
 -- Assumes nothing.
-use lib.Dec.{T}
-use Rattle.octets.specs.Octets.{octets}
+use Rattle.std.proofs.Common.{arith}
+use Rattle.std.proofs.lemmas.Grind.{common_steps}
 use Rattle.octets.proofs.Digits.{octets_known}
-use Rattle.records.proofs.Answers.{settings_absent, settings_all}
+use Rattle.records.proofs.Slots.{settings_law}
 use Rattle.records.proofs.settings_sound.Goals as goal
 
-pub returns-then-not-optional_sound : goal.returns-then-not-optional_sound
-returns-then-not-optional_sound c =
-    let o : T (octets c.args.slot.now) = octets_known c.args.slot.now (λ i. (c.type_inv.slot i).fits) in
-    search settings_absent
+pub returns-then-optional_sound : goal.returns-then-optional_sound
+returns-then-optional_sound c = grind (arith, common_steps, settings_law c.args.slot.now c.told-slot (octets_known c.args.slot.now c.fits-slot))
 
-pub returns : goal.returns
-returns c =
-    let o : T (octets c.args.slot.now) = octets_known c.args.slot.now (λ i. (c.type_inv.slot i).fits) in
-    search settings_all
+pub returns-else-optional_sound : goal.returns-else-optional_sound
+returns-else-optional_sound c = grind (arith, common_steps, settings_law c.args.slot.now c.told-slot (octets_known c.args.slot.now c.fits-slot))

@@ -1,13 +1,13 @@
 -- `records::tunnel_sound` meets its contract.
 -- Assumes nothing.
-use Rattle.records.proofs.Answers.{tunnel_low, tunnel_high, tunnel_in_lem}
+use Rattle.std.proofs.Common.{arith}
+use Rattle.std.proofs.lemmas.Grind.{common_steps}
+use Rattle.std.proofs.Common.{◌+◌, get_or}
+use Rattle.records.proofs.Answers.{tunnel_is}
 use Rattle.records.proofs.tunnel_sound.Goals as goal
 
 pub returns-then-teid-u : goal.returns-then-teid-u
-returns-then-teid-u c = search tunnel_low
+returns-then-teid-u c = grind (arith, common_steps, tunnel_is c.args.u _ (get_or c.args.slot.now (c.args.at + 4) 0) _ c.read-teid.ensures.0)
 
-pub returns-then-u-teid : goal.returns-then-u-teid
-returns-then-u-teid c = search tunnel_high
-
-pub returns : goal.returns
-returns c = search tunnel_in_lem
+pub returns-else-teid-u : goal.returns-else-teid-u
+returns-else-teid-u c = grind (arith, common_steps, tunnel_is c.args.u _ (get_or c.args.slot.now (c.args.at + 4) 0) _ c.read-teid.ensures.0)

@@ -13,18 +13,15 @@ use Rattle.marking.proofs.AddressThere.{sound_head, present_endpoints, present_p
 use Rattle.marking.proofs.AddressSlots.{area_long, later, slot_ends, slot_pdrs, slot_few, slot_whole}
 use Rattle.marking.proofs.addresses.admit.Goals as goal
 
-pub overflow_cast-m : goal.overflow_cast-m
-overflow_cast-m c = omega (arith, c.type_inv.slot 10)
-
 pub claim_all-requires : goal.claim_all-requires
 unfolding settings_of
 claim_all-requires c =
     let start = c in
     let g = c.args in
     let xs = g.slot.now in
-    let o : T (octets xs) = octets_known xs (λ i. (c.type_inv.slot i).fits) in
-    let counts = counts_headed xs (sound_head (settings_of g.u) xs c.requires.1) in
-    (omega (arith, counts.endpoints, length_part endpoints_at (max_endpoints * endpoint_width) xs (omega (arith, c.requires.0))), lit≤ tt, c.requires.3, c.requires.4, c.requires.5, c.requires.6, later g.turn g.u.addresses g.holders.now g.words.now c.requires.7, present_endpoints (settings_of g.u) c.requires.2 xs c.requires.0 o c.requires.1)
+    let o : T (octets xs) = octets_known xs c.fits-slot in
+    let counts = counts_headed xs (sound_head (settings_of g.u) xs c.requires.0) in
+    (omega (arith, counts.endpoints, length_part endpoints_at (max_endpoints * endpoint_width) xs (omega (arith, c.told-slot))), lit≤ tt, c.requires.2, c.requires.3, c.requires.4, c.requires.5, later g.turn g.u.addresses g.holders.now g.words.now c.requires.6, present_endpoints (settings_of g.u) c.requires.1 xs c.told-slot o c.requires.0)
 
 pub returns-in_err-e : goal.returns-in_err-e
 unfolding settings_of
@@ -32,10 +29,7 @@ returns-in_err-e c =
     let start = c in
     let g = c.args in
     let ends = c.claim_all in
-    rw (err_from_is_err_and c.from_residual.result c.from_residual.ensures.1).1 (slot_ends (settings_of g.u) g.turn g.holders.now g.words.now g.slot.now (sound_head (settings_of g.u) g.slot.now c.requires.1) c.requires.5 c.requires.7 ends.result ends.new.holders ends.new.words ends.ensures c.in_err-e.was)
-
-pub overflow_cast-n : goal.overflow_cast-n
-overflow_cast-n c = omega (arith, c.type_inv.slot 9)
+    rw (err_from_is_err_and c.from_residual.result c.from_residual.ensures.1).1 (slot_ends (settings_of g.u) g.turn g.holders.now g.words.now g.slot.now (sound_head (settings_of g.u) g.slot.now c.requires.0) c.requires.4 c.requires.6 ends.result ends.new.holders ends.new.words ends.ensures c.in_err-e.was)
 
 pub claim_all-requires-2 : goal.claim_all-requires-2
 unfolding settings_of
@@ -43,10 +37,10 @@ claim_all-requires-2 c =
     let start = c in
     let g = c.args in
     let xs = g.slot.now in
-    let o : T (octets xs) = octets_known xs (λ i. (c.type_inv.slot i).fits) in
+    let o : T (octets xs) = octets_known xs c.fits-slot in
     let ends = c.claim_all in
-    let counts = counts_headed xs (sound_head (settings_of g.u) xs c.requires.1) in
-    (omega (arith, counts.pdrs, length_part pdrs_at (max_pdrs * pdr_width) xs (omega (arith, c.requires.0))), lit≤ tt, c.requires.3, omega (arith, c.requires.4, area_long ends.ensures c.in_ok-e.e c.in_ok-e.was), c.requires.5, c.requires.6, ends.ensures.agrees c.in_ok-e.e c.in_ok-e.was, present_pdrs (settings_of g.u) c.requires.2 xs c.requires.0 o c.requires.1)
+    let counts = counts_headed xs (sound_head (settings_of g.u) xs c.requires.0) in
+    (omega (arith, counts.pdrs, length_part pdrs_at (max_pdrs * pdr_width) xs (omega (arith, c.told-slot))), lit≤ tt, c.requires.2, omega (arith, c.requires.3, area_long ends.ensures c.in_ok-e.e c.in_ok-e.was), c.requires.4, c.requires.5, ends.ensures.agrees c.in_ok-e.e c.in_ok-e.was, present_pdrs (settings_of g.u) c.requires.1 xs c.told-slot o c.requires.0)
 
 pub returns-in_err-p : goal.returns-in_err-p
 unfolding settings_of
@@ -55,7 +49,7 @@ returns-in_err-p c =
     let g = c.args in
     let ends = c.claim_all in
     let pdrs = c.claim_all-2 in
-    rw (err_from_is_err_and c.from_residual-in_err-p.result c.from_residual-in_err-p.ensures.1).1 (slot_pdrs (settings_of g.u) g.turn g.holders.now g.words.now g.slot.now (sound_head (settings_of g.u) g.slot.now c.requires.1) c.requires.5 c.requires.7 ends.result ends.new.holders ends.new.words ends.ensures c.in_ok-e.e c.in_ok-e.was pdrs.result pdrs.new.holders pdrs.new.words pdrs.ensures c.in_err-p.was)
+    rw (err_from_is_err_and c.from_residual-in_err-p.result c.from_residual-in_err-p.ensures.1).1 (slot_pdrs (settings_of g.u) g.turn g.holders.now g.words.now g.slot.now (sound_head (settings_of g.u) g.slot.now c.requires.0) c.requires.4 c.requires.6 ends.result ends.new.holders ends.new.words ends.ensures c.in_ok-e.e c.in_ok-e.was pdrs.result pdrs.new.holders pdrs.new.words pdrs.ensures c.in_err-p.was)
 
 pub overflow_add-result : goal.overflow_add-result
 unfolding settings_of
@@ -64,7 +58,7 @@ overflow_add-result c =
     let g = c.args in
     let ends = c.claim_all in
     let pdrs = c.claim_all-2 in
-    let few = slot_few (settings_of g.u) g.turn g.holders.now g.words.now g.slot.now (sound_head (settings_of g.u) g.slot.now c.requires.1) c.requires.5 c.requires.7 ends.result ends.new.holders ends.new.words ends.ensures c.in_ok-e.e c.in_ok-e.was pdrs.result pdrs.new.holders pdrs.new.words pdrs.ensures c.in_ok-p.p c.in_ok-p.was in
+    let few = slot_few (settings_of g.u) g.turn g.holders.now g.words.now g.slot.now (sound_head (settings_of g.u) g.slot.now c.requires.0) c.requires.4 c.requires.6 ends.result ends.new.holders ends.new.words ends.ensures c.in_ok-e.e c.in_ok-e.was pdrs.result pdrs.new.holders pdrs.new.words pdrs.ensures c.in_ok-p.p c.in_ok-p.was in
     omega (arith, few)
 
 pub returns : goal.returns
@@ -74,4 +68,4 @@ returns c =
     let g = c.args in
     let ends = c.claim_all in
     let pdrs = c.claim_all-2 in
-    slot_whole (settings_of g.u) g.turn g.holders.now g.words.now g.slot.now (sound_head (settings_of g.u) g.slot.now c.requires.1) c.requires.5 c.requires.7 ends.result ends.new.holders ends.new.words ends.ensures c.in_ok-e.e c.in_ok-e.was pdrs.result pdrs.new.holders pdrs.new.words pdrs.ensures c.in_ok-p.p c.in_ok-p.was
+    slot_whole (settings_of g.u) g.turn g.holders.now g.words.now g.slot.now (sound_head (settings_of g.u) g.slot.now c.requires.0) c.requires.4 c.requires.6 ends.result ends.new.holders ends.new.words ends.ensures c.in_ok-e.e c.in_ok-e.was pdrs.result pdrs.new.holders pdrs.new.words pdrs.ensures c.in_ok-p.p c.in_ok-p.was

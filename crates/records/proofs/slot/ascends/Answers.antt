@@ -30,25 +30,25 @@ loop-i-init c =
 pub overflow_mul-at : goal.overflow_mul-at
 overflow_mul-at c =
     let s = c in
-    let next : c.loop-i.i + 1 + 1 ≤ c.args.n = omega arith in
+    let next : c.loop-i.i + 1 ≤ c.args.n = omega arith in
     omega (arith, mul-le-mul_right c.args.w next)
 
 pub read-y-requires : goal.read-y-requires
 read-y-requires c =
     let s = c in
-    let next : c.loop-i.i + 1 + 1 ≤ c.args.n = omega arith in
+    let next : c.loop-i.i + 1 ≤ c.args.n = omega arith in
     omega (arith, mul-le-mul_right c.args.w next)
 
 pub overflow_add-at : goal.overflow_add-at
 overflow_add-at c =
     let s = c in
-    let next : c.loop-i.i + 1 + 1 ≤ c.args.n = omega arith in
+    let next : c.loop-i.i + 1 ≤ c.args.n = omega arith in
     omega (arith, mul-le-mul_right c.args.w next)
 
 pub read-z-requires : goal.read-z-requires
 read-z-requires c =
     let s = c in
-    let next : c.loop-i.i + 1 + 1 ≤ c.args.n = omega arith in
+    let next : c.loop-i.i + 1 ≤ c.args.n = omega arith in
     omega (arith, mul-le-mul_right c.args.w next)
 
 pub returns-then-reaches : goal.returns-then-reaches

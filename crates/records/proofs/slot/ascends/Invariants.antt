@@ -1,6 +1,5 @@
 -- `records::slot::ascends` meets its contract.
 -- Assumes nothing.
-use Prim.Native.Nat.{◌-◌}
 use Rattle.areas.specs.Records.{pair_key}
 use Rattle.areas.proofs.LookupLaws.{keys}
 use Rattle.records.proofs.Turns.{Rising}
@@ -8,6 +7,3 @@ use Rattle.records.proofs.slot.ascends.Given as goal
 
 abbrev pub invariant-loop-i : goal.invariant-loop-i
 invariant-loop-i l = Rising (keys l.w 9 l.n l.a) l.n l.i (pair_key l.high l.last)
-
-abbrev pub decreases-loop-i : goal.decreases-loop-i
-decreases-loop-i l = l.n - l.i
