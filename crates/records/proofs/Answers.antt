@@ -130,6 +130,15 @@ module _ (u : Unit) where
 
 -- ---- PDRs
 
+in_turn : (f s m a : Bool) → all_of (f ∷ s ∷ m ∷ a ∷ []) ≡ (s && (f && (a && m)))
+in_turn true true true true = refl
+in_turn true true true false = refl
+in_turn true true false true = refl
+in_turn true true false false = refl
+in_turn true false m a = refl
+in_turn false true m a = refl
+in_turn false false m a = refl
+
 module _ (u : Unit) (live xs : List ℕ) where
   -- what it matches on
   abbrev matches : Bool
@@ -154,12 +163,16 @@ module _ (u : Unit) (live xs : List ℕ) where
     abbrev tests : List Bool
     tests = far ∷ ltb (get_or xs source_at 0) 16 ∷ matches ∷ address ∷ []
 
-    pub pdr_is : pdr_sound (settings_of u) live xs ≡ all_of tests
+    pdr_is : pdr_sound (settings_of u) live xs ≡ all_of tests
     unfolding fields_at pdr_test
     pdr_is = pdr_law (settings_of u) (fits u pool) live xs e o ∙ rw (octet_field far_at xs, octet_field source_at xs, octet_field match_at xs, octet_field families_at xs, octet_field named_endpoint_at xs, octet_field pdr_address_there_at xs)
 
     pub pdr_source : 15 < get_or xs source_at 0 → false ≡ pdr_sound (settings_of u) live xs
     pdr_source h = sym (pdr_is ∙ rw (le-ltb (get_or xs source_at 0) 16 (omega arith)) (and-false far))
+
+    -- in the order of the code
+    pub pdr_turns : pdr_sound (settings_of u) live xs ≡ (ltb (get_or xs source_at 0) 16 && (far && (address && matches)))
+    pdr_turns = pdr_is ∙ in_turn far (ltb (get_or xs source_at 0) 16) matches address
 
 -- ---- endpoint IDs
 

@@ -69,8 +69,8 @@ pub fn endpoint_sound(slot: &[u8; format::ENDPOINT], u: Settings) -> bool
     requires { u.first + u.size ≤ 2 ^ 32 }
     ensures { result ≡ endpoint_sound (settings_of u) slot.now }
 {
-    tunnel_sound(slot, format::ENDPOINT_TEID, u)
-        && field_sound(slot, format::ENDPOINT_ADDRESS_THERE)
+    field_sound(slot, format::ENDPOINT_ADDRESS_THERE)
+        && tunnel_sound(slot, format::ENDPOINT_TEID, u)
 }
 
 // Whether one of the endpoints has the ID id. Every ID is read, so that no branch goes by which one it is.
@@ -102,10 +102,10 @@ pub fn pdr_sound(slot: &[u8; format::PDR], ends: &[[u8; format::ENDPOINT]], u: S
     requires { u.first + u.size ≤ 2 ^ 32 }
     ensures { result ≡ pdr_sound (settings_of u) (ids_of ends.now) slot.now }
 {
-    field_sound(slot, format::FAR)
-        && slot[format::SOURCE] < 16
-        && match_sound(slot, ends, u)
+    slot[format::SOURCE] < 16
+        && field_sound(slot, format::FAR)
         && field_sound(slot, format::PDR_ADDRESS_THERE)
+        && match_sound(slot, ends, u)
 }
 
 // 1 where x is not zero.

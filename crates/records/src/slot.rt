@@ -11,7 +11,9 @@ ghost use Rattle.areas.specs.Records.{key_of};
 ghost use Rattle.records.specs.Kept.{csid_sound};
 ghost use Rattle.records.specs.Slot.{area_sound, counts_sound, head_sound};
 
-use format::{CSID, CSID_COUNT, ENDPOINT_COUNT, MAX_CSIDS, MAX_ENDPOINTS, MAX_PDRS, PDR_COUNT, SLOT};
+use format::{
+    CSID, CSID_COUNT, ENDPOINT_COUNT, MAX_CSIDS, MAX_ENDPOINTS, MAX_PDRS, PDR_COUNT, SLOT,
+};
 
 // Whether the keys of n records ascend. A key is the first nine octets of a record of w.
 fn ascends(a: &[u8], w: usize, n: usize) -> bool

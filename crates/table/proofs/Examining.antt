@@ -5,7 +5,7 @@ use Prim.Native.Nat.{ℕ, ◌+◌, ◌-◌, ◌*◌, ◌/◌, ◌^◌, ◌≤◌
 use native.Mathlib.Omega.{arith}
 use mathlib.Core.Bool.{Bool, true, false, not, ◌&&◌}
 use mathlib.Core.List.{List, [], ◌∷◌, map}
-use borrow.Author.Tests.{eq-eqb, ne_eqb, le-leb, lt-leb, not-true, not-false}
+use borrow.Author.Tests.{ne_eqb, le-leb, lt-leb, not-true, not-false}
 use lib.ListN.{length, drop, replicate, length-drop}
 use lib.Seq.{take_all}
 use lib.Dec.{T, eqb, leb, ltb, leb→le, lt→ltb}

@@ -6,8 +6,8 @@ use Rattle.octets.proofs.Digits.{octets_known}
 use Rattle.records.proofs.Answers.{endpoint_is}
 use Rattle.records.proofs.endpoint_sound.Goals as goal
 
-pub returns-then-tunnel_sound : goal.returns-then-tunnel_sound
-returns-then-tunnel_sound c = grind (arith, common_steps, endpoint_is c.args.u c.requires c.args.slot.now c.told-slot (octets_known c.args.slot.now c.fits-slot))
+pub returns-then-field_sound : goal.returns-then-field_sound
+returns-then-field_sound c = grind (arith, common_steps, endpoint_is c.args.u c.requires c.args.slot.now c.told-slot (octets_known c.args.slot.now c.fits-slot))
 
-pub returns-else-tunnel_sound : goal.returns-else-tunnel_sound
-returns-else-tunnel_sound c = grind (arith, common_steps, endpoint_is c.args.u c.requires c.args.slot.now c.told-slot (octets_known c.args.slot.now c.fits-slot))
+pub returns-else-field_sound : goal.returns-else-field_sound
+returns-else-field_sound c = grind (arith, common_steps, endpoint_is c.args.u c.requires c.args.slot.now c.told-slot (octets_known c.args.slot.now c.fits-slot))

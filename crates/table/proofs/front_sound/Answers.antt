@@ -28,7 +28,7 @@ overflow_add-u c =
 pub returns-then-n-u : goal.returns-then-n-u
 returns-then-n-u c =
     let front : c.unwrap.result.now ≡ part 0 settings_width c.args.t.now = (MatchOption-at_some (length c.args.t.now < settings_width) (λ (p : Bor (List ℕ)). IsFirstChunk c.args.t.now p.now settings_width) c.unwrap.result c.unwrap.ensures c.first_chunk.ensures.cases).same in
-    grind (arith, common_steps, front, front_is c.args.t.now c.args.u c.requires.1 c.read-n.result c.read-n.ensures.0)
+    grind (arith, front, front_is c.args.t.now c.args.u c.requires.1 c.read-n.result c.read-n.ensures.0)
 
 pub returns-else-n-u : goal.returns-else-n-u
 returns-else-n-u c =
