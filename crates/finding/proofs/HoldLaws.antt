@@ -5,7 +5,8 @@ use Prim.Native.Nat.{ℕ, ◌+◌, ◌-◌, ◌*◌, ◌≤◌, ◌<◌}
 use native.Mathlib.Omega.{arith}
 use mathlib.Core.Bool.{Bool, true, false, ◌&&◌, ◌||◌}
 use mathlib.Core.Option.{none, some}
-use mathlib.Core.List.{List, map}
+use mathlib.Core.List.{List, [], ◌∷◌, map}
+use Rattle.std.specs.List.{list_any}
 use lib.Dec.{eqb}
 use borrow.Author.Tests.{eq-eqb, ne_eqb}
 use lib.ListN.{length, take, drop, get_or}
@@ -62,29 +63,17 @@ unfolding member
 pdr_with_lem false xs teid hs = refl
 pdr_with_lem true xs teid hs = rw (teid_of_lem xs, eqb_turn teid (number (part teid_at 4 xs)))
 
-module _ (teid n i : ℕ) (a : List ℕ) where
-  abbrev pub pdrs_from : ℕ → Bool
-  pdrs_from j = pdrs_hold teid (n - j) (drop (j * pdr_width) a)
+-- PDRs looked through
+any_holds : (teid : ℕ) (rows : List (List ℕ)) → list_any (λ row. holds_teid row teid) rows ≡ member teid (map teid_of (collect pdr_holding (map view_pdr rows)))
+unfolding collect holds_teid octet_at member
+any_holds teid [] = refl
+any_holds teid (row ∷ rows) =
+    (λ j. (eqb (get_or row match_at 0) 1 && eqb (number (part teid_at 4 row)) teid) || any_holds teid rows j)
+    ∙ sym (rw (hold_of_lem row) (pdr_with_lem (eqb (get_or row match_at 0) 1) row teid (collect pdr_holding (map view_pdr rows))))
 
-  module _ (h : i < n) (r : Bool) (e : r ≡ holds_teid (take (i * pdr_width + pdr_width - i * pdr_width) (drop (i * pdr_width) a)) teid) where
-    pdr_turn : pdrs_from i ≡ (r || pdrs_from (i + 1))
-    unfolding pdrs_hold pdr_holds collect holds_teid octet_at
-    pdr_turn =
-        let xs : List ℕ = part (i * pdr_width) pdr_width a in
-        let span : i * pdr_width + pdr_width - i * pdr_width ≡ pdr_width = omega arith in
-        let test : r ≡ (eqb (get_or xs match_at 0) 1 && eqb (number (part teid_at 4 xs)) teid) = rw span at e in
-        rw (slices_more pdr_width a n i h, hold_of_lem xs, test)
-        (pdr_with_lem (eqb (get_or xs match_at 0) 1) xs teid (collect pdr_holding (map view_pdr (slices pdr_width (n - (i + 1)) (drop ((i + 1) * pdr_width) a)))))
-
-    pub pdr_here : r ≡ true → pdrs_from i ≡ pdrs_hold teid n a → true ≡ pdrs_hold teid n a
-    pdr_here s k = sym (pdr_turn ∙ rw s) ∙ k
-
-    pub pdr_later : r ≡ false → pdrs_from i ≡ pdrs_hold teid n a → pdrs_from (i + 1) ≡ pdrs_hold teid n a
-    pdr_later s k = sym (pdr_turn ∙ rw s) ∙ k
-
-  pub pdrs_end : n ≤ i → pdrs_from i ≡ pdrs_hold teid n a → false ≡ pdrs_hold teid n a
-  unfolding pdrs_hold pdr_holds slices collect member
-  pdrs_end h k = let e : n - i ≡ 0 = omega arith in rw e at k
+pub pdrs_looked : (teid n : ℕ) (a : List ℕ) (rows : List (List ℕ)) → rows ≡ slices pdr_width n a → list_any (λ row. holds_teid row teid) rows ≡ pdrs_hold teid n a
+unfolding pdrs_hold pdr_holds
+pdrs_looked teid n a rows e = any_holds teid rows ∙ ap (λ (l : List (List ℕ)). member teid (map teid_of (collect pdr_holding (map view_pdr l)))) e
 
 -- ---- the slot
 

@@ -65,13 +65,8 @@ fn pdrs_hold(pdrs: &[u8], n: usize, teid: u64) -> bool
     requires { n * pdr_width ≤ length pdrs.now }
     ensures { result ≡ pdrs_hold teid n pdrs.now }
 {
-    for i in 0..n {
-        let at = i * PDR;
-        if marking::holds(pdrs[at..].first_chunk().unwrap(), teid) {
-            return true;
-        }
-    }
-    false
+    let (rows, _) = pdrs.as_chunks::<PDR>();
+    rows[..n].iter().any(|row| marking::holds(row, teid))
 }
 
 // Whether a record of the session in a slot holds a TEID.

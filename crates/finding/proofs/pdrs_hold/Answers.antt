@@ -1,19 +1,20 @@
--- `finding::pdrs_hold` meets its contract: what is left of the PDRs gives the same answer.
+-- `finding::pdrs_hold` meets its contract.
 -- Assumes nothing.
-use mathlib.Core.Path.{◌≡◌}
-use Prim.Native.Nat.{◌-◌}
-use native.Mathlib.Omega.{arith}
-use Rattle.finding.proofs.HoldLaws.{pdr_here, pdr_later, pdrs_end}
+use Rattle.std.proofs.Common.{◌≡◌, ℕ, ◌≤◌, List, length, take, ◌∙◌, arith, rules}
+use borrow.Author.Tests.{tests}
+use Rattle.std.specs.List.{list_any}
+use Rattle.std.proofs.lemmas.Iterator.{YieldsList-from_slice}
+use Rattle.std.proofs.lemmas.Iterator.Search.{any_from_yields_List}
+use Rattle.rules.specs.Layout.{pdr_width}
+use Rattle.records.proofs.Chunks.{rows_before}
+use Rattle.marking.specs.Marking.{holds_teid}
+use Rattle.finding.proofs.HoldLaws.{pdrs_looked}
 use Rattle.finding.proofs.pdrs_hold.Goals as goal
 
-pub loop-i-init : goal.loop-i-init
-loop-i-init c = let e : c.args.n - 0 ≡ c.args.n = omega arith in (omega arith, rw e)
-
-pub returns-then-holds : goal.returns-then-holds
-returns-then-holds c = search pdr_here
-
-pub loop-i-preserved : goal.loop-i-preserved
-loop-i-preserved c = (omega arith, search pdr_later)
-
 pub returns : goal.returns
-returns c = search pdrs_end
+returns c =
+    let g = c.args in
+    let enough : g.n ≤ length c.as_chunks.result.0.now = omega (arith, c.requires, c.as_chunks.ensures.front_len) in
+    let found : c.any.result ≡ list_any (λ (row : List ℕ). holds_teid row g.teid) (take g.n c.as_chunks.result.0.now) =
+    any_from_yields_List (λ (row : List ℕ). holds_teid row g.teid) _ _ c.any.result c.any.ensures.ran (YieldsList-from_slice (take g.n c.as_chunks.result.0.now) cc) (λ x b q k. search (rules, tests)) in
+    found ∙ pdrs_looked g.teid g.n g.pdrs.now _ (rows_before pdr_width g.n _ g.pdrs.now _ c.as_chunks.ensures.front enough)
