@@ -11,7 +11,8 @@ ghost use Rattle.areas.specs.Records.{key_of};
 ghost use Rattle.areas.specs.Counted.{place_in, with_record};
 ghost use Rattle.session.specs.Areas.{table_area};
 ghost use Rattle.session.specs.Build.{built};
-ghost use Rattle.request.specs.Requests.{RoomFor};
+ghost use Rattle.request.specs.Requests.{most_rows, RoomFor};
+ghost use Rattle.format.specs.declared.TheConstants.{PLAN};
 ghost use Rattle.changes.specs.Answers.{Asked, Answers, Replies, Refusing, Accepting};
 ghost use Rattle.changes.specs.Steps.{Counted, Giving, Given, Fetching, told_of, Fetched, Entered, Readable, Changing};
 
@@ -179,8 +180,8 @@ fn change_with(
     }
 }
 
-// The same of a short message. Each of these has its plan in a frame of its own.
-fn change_short(
+// The same with a plan of so many words, which has a frame of its own.
+fn change_in<const WORDS: usize>(
     t: &mut [u8],
     k: Known,
     words: &[u64],
@@ -189,44 +190,10 @@ fn change_short(
     p: usize,
     out: &mut [u8],
 ) -> Replied
-    requires { Changing k t.old msg.now out.old p × Counted k t.old words.now ips.now × (length msg.now ≤ 374) }
+    requires { Changing k t.old msg.now out.old p × Counted k t.old words.now ips.now × (row_width * most_rows (length msg.now - 16) ≤ WORDS) × (WORDS ≤ PLAN) }
     ensures { Replies t.old k.share.peer msg.now out.old result.used result.place out.new t.new }
 {
-    let mut plan = [0u64; format::SHORT_PLAN];
-    change_with(t, k, words, ips, msg, p, &mut plan, out)
-}
-
-// The same of a message of middle length.
-fn change_middle(
-    t: &mut [u8],
-    k: Known,
-    words: &[u64],
-    ips: &[u64],
-    msg: &[u8],
-    p: usize,
-    out: &mut [u8],
-) -> Replied
-    requires { Changing k t.old msg.now out.old p × Counted k t.old words.now ips.now × (length msg.now ≤ 1094) }
-    ensures { Replies t.old k.share.peer msg.now out.old result.used result.place out.new t.new }
-{
-    let mut plan = [0u64; format::MIDDLE_PLAN];
-    change_with(t, k, words, ips, msg, p, &mut plan, out)
-}
-
-// The same of any message.
-fn change_long(
-    t: &mut [u8],
-    k: Known,
-    words: &[u64],
-    ips: &[u64],
-    msg: &[u8],
-    p: usize,
-    out: &mut [u8],
-) -> Replied
-    requires { Changing k t.old msg.now out.old p × Counted k t.old words.now ips.now }
-    ensures { Replies t.old k.share.peer msg.now out.old result.used result.place out.new t.new }
-{
-    let mut plan = [0u64; format::PLAN];
+    let mut plan = [0u64; WORDS];
     change_with(t, k, words, ips, msg, p, &mut plan, out)
 }
 
@@ -244,10 +211,10 @@ pub fn change(
     ensures { Replies t.old k.share.peer msg.now out.old result.used result.place out.new t.new }
 {
     if msg.len() <= format::SHORT {
-        return change_short(t, k, words, ips, msg, p, out);
+        return change_in::<{ format::SHORT_PLAN }>(t, k, words, ips, msg, p, out);
     }
     if msg.len() <= format::MIDDLE {
-        return change_middle(t, k, words, ips, msg, p, out);
+        return change_in::<{ format::MIDDLE_PLAN }>(t, k, words, ips, msg, p, out);
     }
-    change_long(t, k, words, ips, msg, p, out)
+    change_in::<{ format::PLAN }>(t, k, words, ips, msg, p, out)
 }
