@@ -34,6 +34,7 @@ fn chooses(row: &Row, tag: u64, anything: bool) -> bool
 }
 
 // Writes to `places`, from the k-th on and as far as there is room, where the rows begin that choose; the answer is how many places there are then.
+// Stays: (d) lending `&mut places[k..]` in place of k is no plainer: both callers would add k to each second answer.
 fn find_places(rows: &[Row], tag: u64, anything: bool, places: &mut [usize], k: usize) -> usize
     requires { k ≤ length places.old }
     ensures { (result ≤ length places.old) × (take result places.new ≡ take (length places.old) (take k places.old ++ places_by (chosen_by anything tag) 0 rows.now)) }
@@ -82,6 +83,7 @@ fn set_word(words: &mut [u64], i: usize, v: u64)
 
 // The TEID for a CHOOSE with this ID: the one that the ID has, else the next free one, which the ID then has; 0 if none is free.
 // Word i of `known` is one more than the TEID that CHOOSE ID i has, 0 if it has none.
+// Stays: (d) an Option as ID and in each word is no plainer: both would be tested at each read and write, where a word past the end reads 0 now.
 fn teid_for(known: &mut [u64], id: usize, words: &[u64], u: Settings, from: usize) -> Given
     requires { (u.size ≤ 64 * length words.now) × (u.size ≤ max_pool) × (u.first < 2 ^ 32) }
     ensures { Gives u.first words.now from u.size known.old id result known.new }
@@ -132,6 +134,7 @@ fn store(plan: &mut [u64], places: &[usize], teids: &[u64])
 
 // Grants a TEID to each row that chooses, at most 24, and writes it into the row. `places` gets where those rows begin, in the order
 // in which the TEIDs are given; the answer is how many there are. `words` is the map of taken TEIDs.
+// Stays: (a) the library allocates nothing: the caller lends the places, and clause Granted speaks of them and of their count.
 pub fn grant(plan: &mut [u64], n: usize, words: &[u64], u: Settings, places: &mut [usize]) -> usize
     requires { (n * row_width ≤ length plan.old) × (u.size ≤ 64 * length words.now) × (u.size ≤ max_pool) × (u.first < 2 ^ 32) × (length places.old ≡ max_grants) }
     ensures { Granted n u.first words.now u.size plan.old result plan.new places.new }

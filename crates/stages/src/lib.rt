@@ -163,6 +163,7 @@ fn already_live(kind: u64, place: Result<usize, usize>) -> bool
 }
 
 // The cause of stages 4 to 6, 1 where there is none.
+// Stays: (d) a number for a refusal: the rules' verdict, which the clause names, has the cause 1 where it accepts.
 pub fn judge(
     t: &[u8],
     k: Known,
