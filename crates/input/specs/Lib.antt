@@ -1,0 +1,2 @@
+-- `Parts`: octets cut into parts, each after its length.
+pub mod Parts

@@ -1,0 +1,2 @@
+-- `Hex`: octets as hexadecimal digits.
+pub mod Hex
