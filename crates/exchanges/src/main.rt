@@ -14,18 +14,19 @@
 // lines in `stdout` are the second implementation's.
 #![tactic(auto)]
 
-ghost use Rattle.std.specs.Prelude.{◌≡◌, ◌+◌, ◌≤◌, length, IfOk};
+ghost use Rattle.std.specs.Prelude.{◌≡◌, ◌+◌, ◌≤◌, length};
 
 use changes::Replied;
 use engine::outcome::Outcome;
-use std::io;
+use input::Parts;
+use output::Hex;
+use std::fmt::{Display, Formatter};
+use std::{fmt, io};
 use table::{Broken, Refused};
 use unit::Peer;
 
-// How many octets a part that makes a table has, and one that changes a store.
+// How many octets a part that makes a table has.
 const MAKING: usize = 49;
-
-const CHANGING: usize = 5;
 
 // The room for the largest table that is made here, of 16 sessions.
 const ROOM: usize = format::HEAD + 16 * format::SLOT;
@@ -33,249 +34,206 @@ const ROOM: usize = format::HEAD + 16 * format::SLOT;
 // So many octets of standard input are read at most.
 const INPUT: usize = 65536;
 
-fn counted(rt: &impl Print, name: &str, count: Result<u64, Broken>) -> io::Result<()> {
-    match count {
-        Err(_) => print!(rt; "{name}broken"),
-        Ok(free) => print!(rt; "{name}{free}"),
+// A count of a table.
+#[derive(Clone, Copy)]
+struct Count(Result<u64, Broken>);
+
+impl Display for Count {
+    fn fmt<W: fmt::Write>(&self, f: &mut Formatter<W>) -> fmt::Result {
+        match self.0 {
+            Ok(n) => write!(f, "{n}"),
+            Err(Broken) => write!(f, "broken"),
+        }
     }
 }
 
-// The outcome of a call, and the free counts after it.
-fn outcome(rt: &impl Print, t: &[u8], name: &str, n: u64) -> io::Result<()> {
-    print!(rt; "{name}{n}")?;
-    counted(rt, " free ", table::free_count(t))?;
-    counted(rt, " addresses ", table::free_addresses(t))
+// What a table has free.
+#[derive(Clone, Copy)]
+struct Free<'a>(&'a [u8]);
+
+impl Display for Free<'_> {
+    fn fmt<W: fmt::Write>(&self, f: &mut Formatter<W>) -> fmt::Result {
+        let teids = Count(table::free_count(self.0));
+        let addresses = Count(table::free_addresses(self.0));
+        write!(f, "free {teids} addresses {addresses}")
+    }
 }
 
 // The peer's settings at a place of s.
 fn peer_at(s: &[u8], at: usize) -> Peer
     requires { at + 12 ≤ length s.now }
 {
-    let address = octets::read(s, at, 4);
-    let guarantee = octets::read(s, at + 4, 4);
-    let limit = octets::read(s, at + 8, 4);
     Peer {
-        address,
-        guarantee,
-        limit,
+        address: octets::read(s, at, 4),
+        guarantee: octets::read(s, at + 4, 4),
+        limit: octets::read(s, at + 8, 4),
     }
 }
 
-// Makes an empty table with the settings in s in t, of the length that goes with the limit.
-fn make_in(t: &mut [u8], s: &[u8], limit: u32) -> Result<(), Refused>
-    requires { length s.now ≡ 49 }
+// The number at a place of s.
+fn number_at(s: &[u8], at: usize) -> u32
+    requires { at + 4 ≤ length s.now }
 {
-    let ipv4 = octets::read(s, 1, 4) as u32;
-    let first = octets::read(s, 5, 4) as u32;
-    let size = octets::read(s, 9, 4) as u32;
-    let address = octets::read(s, 13, 4) as u32;
-    let count = octets::read(s, 17, 4) as u32;
-    let peer1 = peer_at(s, 25);
-    let peer2 = peer_at(s, 37);
-    table::make(
-        t,
-        ipv4,
-        &s[0..0],
-        first,
-        size,
-        address,
-        count,
-        limit,
-        peer1,
-        peer2,
-    )
+    octets::read(s, at, 4) as u32
 }
 
-// Makes an empty table with the settings in s at the front of t: its length, or 0 where it is refused.
-fn make(t: &mut [u8], s: &[u8]) -> usize
-    requires { length s.now ≡ 49 }
-    ensures { result ≤ length t.new }
-{
-    let limit = octets::read(s, 21, 4) as u32;
-    let end = table::length_for(limit);
-    if t.len() < end {
-        return 0;
-    }
-    match make_in(&mut t[0..end], s, limit) {
-        Ok(()) => end,
-        Err(_) => 0,
-    }
+// The table at the front of its room; at first there is none.
+#[derive(Drop)]
+struct Table {
+    room: [u8; ROOM],
+    end: usize,
 }
 
-// The table after a part that makes one, by its length: a new one, with empty stores, or where it is refused the one of the first n octets.
-fn remake(
-    rt: &impl Print,
-    t: &mut [u8],
-    one: &mut [u8],
-    two: &mut [u8],
-    n: usize,
-    s: &[u8],
-) -> io::Result<usize>
-    requires { (n ≤ length t.old) × (length s.now ≡ 49) }
-    ensures within { IfOk result (λ end. end ≤ length t.new) }
-    ensures room { length t.new ≡ length t.old }
-{
-    let end = make(t, s);
-    if end == 0 {
-        outcome(rt, &t[0..n], "table ", 1)?;
-        println!(rt)?;
-        return Ok(n);
+impl Table {
+    // How many octets the table has, for which there is room.
+    // Stays: a test that never fails, in place of a ghost field `end ≤ 9729` (c): the room is lent to the calls, and of a struct with one none is.
+    fn end(&self) -> usize
+        ensures { result ≤ 9729 }
+    {
+        self.end.min(ROOM)
     }
-    let _ = store::clear(one);
-    let _ = store::clear(two);
-    outcome(rt, &t[0..end], "table ", 0)?;
-    println!(rt)?;
-    Ok(end)
-}
 
-// What a request got.
-fn answer(
-    rt: &impl Print,
-    t: &[u8],
-    got: Result<Replied, Outcome>,
-    reply: &[u8],
-) -> io::Result<()> {
-    match got {
-        Err(number) => outcome(rt, t, "outcome ", u64::from(u32::from(number)))?,
-        Ok(replied) => {
-            outcome(rt, t, "outcome ", 0)?;
-            print!(rt; " place {} reply ", replied.place)?;
-            output::hex(rt, reply, replied.used)?;
+    // What the table has free.
+    fn free(&self) -> Free<'_> {
+        Free(&self.room[..self.end()])
+    }
+
+    // Makes an empty table with the settings in s; where it is refused, the table stays.
+    fn make(&mut self, s: &[u8; MAKING]) -> Result<(), Refused> {
+        let limit = number_at(s, 21);
+        let end = table::length_for(limit);
+        if ROOM < end {
+            return Err(Refused);
+        }
+        table::make(
+            &mut self.room[..end],
+            number_at(s, 1),
+            &[],
+            number_at(s, 5),
+            number_at(s, 9),
+            number_at(s, 13),
+            number_at(s, 17),
+            limit,
+            peer_at(s, 25),
+            peer_at(s, 37),
+        )?;
+        self.end = end;
+        Ok(())
+    }
+
+    // What a request got.
+    fn answer(
+        &self,
+        rt: &impl Print,
+        got: Result<Replied, Outcome>,
+        reply: &[u8],
+    ) -> io::Result<()> {
+        let free = self.free();
+        match got {
+            Err(outcome) => println!(rt; "outcome {} {free}", u32::from(outcome)),
+            Ok(replied) => {
+                let octets = Hex(&reply[..replied.used.min(reply.len())]);
+                println!(rt; "outcome 0 {free} place {} reply {octets}", replied.place)
+            }
         }
     }
-    println!(rt)
-}
 
-// One request of a peer on the table.
-fn request(rt: &impl Print, t: &mut [u8], peer: u32, msg: &[u8]) -> io::Result<()> {
-    let mut reply = [0u8; format::SPACE];
-    let got = engine::serve(t, peer, msg, &mut reply);
-    answer(rt, t, got, &reply)
-}
-
-// One request of a peer on the table, with the peer's store before it.
-fn request_once(
-    rt: &impl Print,
-    t: &mut [u8],
-    peer: u32,
-    store: &mut [u8],
-    msg: &[u8],
-) -> io::Result<()> {
-    let mut reply = [0u8; format::SPACE];
-    let got = repeats::serve_once(t, peer, store, msg, &mut reply);
-    answer(rt, t, got, &reply)
-}
-
-// The peer's store is lent; with a number that is no peer's either does, for neither is looked at.
-fn once(
-    rt: &impl Print,
-    t: &mut [u8],
-    one: &mut [u8],
-    two: &mut [u8],
-    peer: u32,
-    msg: &[u8],
-) -> io::Result<()> {
-    if peer == 2 {
-        return request_once(rt, t, peer, two, msg);
+    // One request of a peer.
+    fn request(&mut self, rt: &impl Print, peer: u8, msg: &[u8]) -> io::Result<()> {
+        let mut reply = [0u8; format::SPACE];
+        let end = self.end();
+        let got = engine::serve(&mut self.room[..end], peer as u32, msg, &mut reply);
+        self.answer(rt, got, &reply)
     }
-    request_once(rt, t, peer, one, msg)
-}
 
-// Changes an octet, if there are so many.
-fn set(store: &mut [u8], at: usize, octet: u8) {
-    if at < store.len() {
-        store[at] = octet;
+    // One request of a peer, with the peer's store before it.
+    fn request_once(
+        &mut self,
+        rt: &impl Print,
+        peer: u8,
+        store: &mut [u8],
+        msg: &[u8],
+    ) -> io::Result<()> {
+        let mut reply = [0u8; format::SPACE];
+        let end = self.end();
+        let got = repeats::serve_once(&mut self.room[..end], peer as u32, store, msg, &mut reply);
+        self.answer(rt, got, &reply)
     }
 }
 
-// Changes an octet of a peer's store.
-fn change(rt: &impl Print, one: &mut [u8], two: &mut [u8], s: &[u8]) -> io::Result<()>
-    requires { length s.now ≡ 5 }
-{
-    let at = octets::read(s, 2, 2) as usize;
-    println!(rt; "octet {at}")?;
-    if s[1] == 1 {
-        set(one, at, s[4]);
-        return Ok(());
-    }
-    if s[1] == 2 {
-        set(two, at, s[4]);
-    }
-    Ok(())
+// The table, and the stores of repeated requests of both peers.
+#[derive(Drop)]
+struct Unit {
+    table: Table,
+    one: [u8; store::LENGTH],
+    two: [u8; store::LENGTH],
 }
 
-// The peer of a part.
-fn peer_of(s: &[u8]) -> u32
-    requires { 2 ≤ length s.now }
-{
-    octets::read(s, 1, 1) as u32
-}
+impl Unit {
+    // A new table empties the stores.
+    fn remake(&mut self, rt: &impl Print, s: &[u8; MAKING]) -> io::Result<()> {
+        let made = self.table.make(s);
+        if made.is_ok() {
+            let _ = store::clear(&mut self.one);
+            let _ = store::clear(&mut self.two);
+        }
+        println!(rt; "table {} {}", made.is_err() as u8, self.table.free())
+    }
 
-// A part that is not there to make a table. One that is too short to name a peer is a request of none.
-fn call(rt: &impl Print, t: &mut [u8], one: &mut [u8], two: &mut [u8], s: &[u8]) -> io::Result<()> {
-    if s.len() < 2 {
-        return request(rt, t, 0, s);
-    }
-    let peer = peer_of(s);
-    if s[0] == 1 {
-        return once(rt, t, one, two, peer, &s[2..]);
-    }
-    if s[0] == 2 {
-        if s.len() == CHANGING {
-            return change(rt, one, two, s);
+    // The peer's store is lent; with a number that is no peer's either does, for neither is looked at.
+    fn request_once(&mut self, rt: &impl Print, peer: u8, msg: &[u8]) -> io::Result<()> {
+        let Unit { table, one, two } = self;
+        if peer == 2 {
+            table.request_once(rt, peer, two, msg)
+        } else {
+            table.request_once(rt, peer, one, msg)
         }
     }
-    request(rt, t, peer, &s[2..])
-}
 
-// One part, on the table of the first n octets of t and the stores of both peers; the table's length after that.
-fn exchange(
-    rt: &impl Print,
-    t: &mut [u8],
-    one: &mut [u8],
-    two: &mut [u8],
-    n: usize,
-    s: &[u8],
-) -> io::Result<usize>
-    requires { n ≤ length t.old }
-    ensures within { IfOk result (λ end. end ≤ length t.new) }
-    ensures room { length t.new ≡ length t.old }
-{
-    if s.len() == MAKING {
-        if s[0] == 0 {
-            return remake(rt, t, one, two, n, s);
+    // Changes an octet of a peer's store, if there is such a peer and so many octets.
+    fn change(&mut self, rt: &impl Print, peer: u8, at: usize, octet: u8) -> io::Result<()> {
+        if at < store::LENGTH {
+            match peer {
+                1 => self.one[at] = octet,
+                2 => self.two[at] = octet,
+                _ => {}
+            }
+        }
+        println!(rt; "octet {at}")
+    }
+
+    // One part. One that is too short to name a peer is a request of none.
+    fn part(&mut self, rt: &impl Print, s: &[u8]) -> io::Result<()> {
+        if let Ok(making) = <&[u8; MAKING]>::try_from(s)
+            && making[0] == 0
+        {
+            return self.remake(rt, making);
+        }
+        match s {
+            [1, peer, msg @ ..] => self.request_once(rt, *peer, msg),
+            [2, peer, high, low, octet] => {
+                let at = *high as usize * 256 + *low as usize;
+                self.change(rt, *peer, at, *octet)
+            }
+            [_, peer, msg @ ..] => self.table.request(rt, *peer, msg),
+            _ => self.table.request(rt, 0, s),
         }
     }
-    call(rt, &mut t[0..n], one, two, s)?;
-    Ok(n)
-}
-
-// The parts of s, one after the other. At first there is no table.
-fn exchanges(
-    rt: &impl Print,
-    t: &mut [u8],
-    one: &mut [u8],
-    two: &mut [u8],
-    s: &[u8],
-) -> io::Result<()> {
-    let mut n: usize = 0;
-    let mut rest = s;
-    while 2 <= rest.len() {
-        let end = 2 + octets::read(rest, 0, 2) as usize;
-        if rest.len() < end {
-            return Ok(());
-        }
-        n = exchange(rt, t, one, two, n, &rest[2..end])?;
-        rest = &rest[end..];
-    }
-    Ok(())
 }
 
 fn main(rt: HostRuntime) -> io::Result<()> {
-    let mut t = [0u8; ROOM];
-    let mut one = [0u8; store::LENGTH];
-    let mut two = [0u8; store::LENGTH];
+    let mut unit = Unit {
+        table: Table {
+            room: [0; ROOM],
+            end: 0,
+        },
+        one: [0; store::LENGTH],
+        two: [0; store::LENGTH],
+    };
     let mut buf = [0u8; INPUT];
     let n = input::read_full(&mut rt.reader(), &mut buf)?;
-    exchanges(&rt, &mut t, &mut one, &mut two, &buf[..n])
+    for part in Parts(&buf[..n]) {
+        unit.part(&rt, part)?;
+    }
+    Ok(())
 }

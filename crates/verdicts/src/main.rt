@@ -9,16 +9,52 @@ mod record;
 ghost use Rattle.std.specs.Prelude.{◌≤◌, length};
 ghost use Rattle.frame.specs.HeaderOf.{SessionHeader};
 
+use format::{Row, header, kinds};
 use frame::header::{Header, Unserved};
+use input::Parts;
 use reading::Fault;
+use record::Record;
 use request::Plan;
-use std::io;
+use std::fmt::{Display, Formatter};
+use std::{fmt, io};
 
 // So many octets of standard input are read at most.
 const ROOM: usize = 65536;
 
-fn outcome(rt: &impl Print, n: u64) -> io::Result<()> {
-    println!(rt; "outcome {n}")
+// A request that was read.
+#[derive(Drop)]
+struct Whole<'a> {
+    kind: u64,
+    seid: u64,
+    sequence: u64,
+    plan: Plan,
+    rows: &'a [Row],
+}
+
+impl Display for Whole<'_> {
+    fn fmt<W: fmt::Write>(&self, f: &mut Formatter<W>) -> fmt::Result {
+        let title = match self.kind {
+            kinds::ESTABLISHMENT => "establishment",
+            kinds::MODIFICATION => "modification",
+            _ => "deletion",
+        };
+        write!(
+            f,
+            "read {title} header={:016x} sequence={}",
+            self.seid, self.sequence
+        )?;
+        if self.kind == kinds::ESTABLISHMENT {
+            let restoring = self.plan.restoring as u8;
+            write!(f, " seid={:016x} restoration={restoring}", self.plan.seid)?;
+        }
+        for row in self.rows {
+            write!(f, " | {}", Record(row))?;
+        }
+        if self.plan.noted {
+            write!(f, " | update-endpoint")?;
+        }
+        Ok(())
+    }
 }
 
 fn fault(rt: &impl Print, found: Fault) -> io::Result<()> {
@@ -28,87 +64,63 @@ fn fault(rt: &impl Print, found: Fault) -> io::Result<()> {
     )
 }
 
-fn title(rt: &impl Print, kind: u64) -> io::Result<()> {
-    match kind {
-        50 => print!(rt; "read establishment"),
-        52 => print!(rt; "read modification"),
-        _ => print!(rt; "read deletion"),
-    }
-}
-
-fn flag(rt: &impl Print, b: bool) -> io::Result<()> {
-    if b { print!(rt; "1") } else { print!(rt; "0") }
-}
-
-// What stands before the records.
-fn head(rt: &impl Print, kind: u64, header: u64, sequence: u64, plan: &Plan) -> io::Result<()> {
-    title(rt, kind)?;
-    print!(rt; " header={header:016x} sequence={sequence}")?;
-    if kind == 50 {
-        print!(rt; " seid={:016x} restoration=", plan.seid)?;
-        flag(rt, plan.restoring)?;
-    }
-    Ok(())
-}
-
 // A message whose header is allowed and has a SEID.
-fn message(rt: &impl Print, msg: &[u8], kind: u64, header: u64) -> io::Result<()>
+fn message(rt: &impl Print, msg: &[u8], kind: u64, seid: u64) -> io::Result<()>
     requires { SessionHeader msg.now × (length msg.now ≤ 2048) }
 {
     let mut words = [0u64; format::PLAN];
-    let sequence = octets::read(msg, 12, 3);
+    let sequence = octets::read(msg, header::SEQUENCE, 3);
     match request::read_request(msg, &mut words) {
         Err(found) => fault(rt, found),
         Ok(plan) => {
-            head(rt, kind, header, sequence, &plan)?;
-            record::all(rt, &words, plan.rows)?;
-            if plan.noted {
-                print!(rt; " | update-endpoint")?;
-            }
-            println!(rt)
+            let rows = plan::rows(&words, plan.rows);
+            let whole = Whole {
+                kind,
+                seid,
+                sequence,
+                plan,
+                rows,
+            };
+            println!(rt; "{whole}")
         }
     }
 }
 
-// A set deletion whose header is allowed.
+// The first fault of a set deletion whose header is allowed.
+fn set_fault(msg: &[u8]) -> Result<(), Fault>
+    requires { (8 ≤ length msg.now) × (length msg.now ≤ 2048) }
+{
+    frame::frame_fault(msg)?;
+    sets::list_fault(&msg[header::LIST_BODY..])
+}
+
 fn set_deletion(rt: &impl Print, msg: &[u8]) -> io::Result<()>
     requires { (8 ≤ length msg.now) × (length msg.now ≤ 2048) }
 {
-    if let Err(spot) = frame::frame_fault(msg) {
-        return fault(rt, Fault::from(spot));
+    match set_fault(msg) {
+        Err(found) => fault(rt, found),
+        Ok(()) => {
+            let sequence = octets::read(msg, header::LIST_SEQUENCE, 3);
+            println!(rt; "read set-deletion sequence={sequence}")
+        }
     }
-    if let Err(found) = sets::list_fault(&msg[8..]) {
-        return fault(rt, found);
-    }
-    println!(rt; "read set-deletion sequence={}", octets::read(msg, 4, 3))
 }
 
 fn verdict(rt: &impl Print, msg: &[u8]) -> io::Result<()> {
     match frame::header::read_header(msg) {
-        Err(Unserved::TooLong) => outcome(rt, 3),
-        Err(Unserved::Malformed) => outcome(rt, 4),
-        Err(Unserved::NotServed) => outcome(rt, 5),
+        Err(Unserved::TooLong) => println!(rt; "outcome 3"),
+        Err(Unserved::Malformed) => println!(rt; "outcome 4"),
+        Err(Unserved::NotServed) => println!(rt; "outcome 5"),
         Ok(Header::Request(kind, seid)) => message(rt, msg, kind, seid),
         Ok(Header::Sets) => set_deletion(rt, msg),
     }
 }
 
-// The messages in s, one after the other.
-fn verdicts(rt: &impl Print, s: &[u8]) -> io::Result<()> {
-    let mut rest = s;
-    while 2 <= rest.len() {
-        let end = 2 + octets::read(rest, 0, 2) as usize;
-        if rest.len() < end {
-            return Ok(());
-        }
-        verdict(rt, &rest[2..end])?;
-        rest = &rest[end..];
-    }
-    Ok(())
-}
-
 fn main(rt: HostRuntime) -> io::Result<()> {
     let mut buf = [0u8; ROOM];
     let n = input::read_full(&mut rt.reader(), &mut buf)?;
-    verdicts(&rt, &buf[..n])
+    for msg in Parts(&buf[..n]) {
+        verdict(&rt, msg)?;
+    }
+    Ok(())
 }
