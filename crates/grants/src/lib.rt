@@ -127,8 +127,8 @@ fn store(plan: &mut [u64], places: &[usize], teids: &[u64])
     requires { T (within plan.old places.now) × (length places.now ≤ length teids.now) }
     ensures { plan.new ≡ stores plan.old places.now teids.now }
 {
-    for (i, place) in places.iter().enumerate() {
-        plan[*place + words::TEID] = teids[i];
+    for (place, teid) in places.iter().zip(teids) {
+        plan[*place + words::TEID] = *teid;
     }
 }
 
