@@ -18,18 +18,11 @@ use changes::Replied;
 use format::{causes, kinds};
 use frame::header::Header;
 use outcome::Outcome;
-use pool::Taken;
 use stages::Known;
 
 pub mod outcome;
 mod set_deletion;
 mod shares;
-
-// The map of the pool's taken addresses at entry.
-#[derive(Clone, Copy)]
-struct TakenAddresses {
-    words: [u64; pool::ADDRESS_WORDS],
-}
 
 // A deletion of the live session at the place p.
 fn delete(t: &mut [u8], k: Known, msg: &[u8], p: usize, out: &mut [u8]) -> Replied
@@ -48,46 +41,35 @@ fn delete(t: &mut [u8], k: Known, msg: &[u8], p: usize, out: &mut [u8]) -> Repli
     let places = [0usize; 1];
     let used = reply::accepted(u, k.share.peer, msg, 0, &plan[0..0], &places[0..0], out);
     session::remove(t, u.limit as usize, format::COUNT, p);
-    Replied {
-        used: used,
-        place: 0,
-    }
+    Replied { used, place: 0 }
 }
 
-// A request whose header is allowed. The maps come by value and are lent on; a deletion reads neither, so it copies neither.
+// A request whose header is allowed, by the maps of taken TEIDs and addresses.
 fn answer(
     t: &mut [u8],
     k: Known,
-    taken: Taken,
-    addresses: TakenAddresses,
+    taken: &[u64],
+    addresses: &[u64],
     msg: &[u8],
     out: &mut [u8],
 ) -> Replied
-    requires { Asked t.old k.share.peer msg.now out.old × Counted k t.old taken.words addresses.words × (k.kind ≡ kind_of msg.now) × (k.seid ≡ header_seid msg.now) }
+    requires { Asked t.old k.share.peer msg.now out.old × Counted k t.old taken.now addresses.now × (k.kind ≡ kind_of msg.now) × (k.seid ≡ header_seid msg.now) }
     ensures { Replies t.old k.share.peer msg.now out.old result.used result.place out.new t.new }
 {
     if k.kind == kinds::ESTABLISHMENT {
-        let words = taken.words;
-        let ips = addresses.words;
-        return changes::change(t, k, &words, &ips, msg, 0, out);
+        return changes::change(t, k, taken, addresses, msg, 0, out);
     }
     let room = k.u.limit as usize;
-    let place = session::find(t, room, format::COUNT, k.share.peer as u64, k.seid);
-    match place {
-        Err(p) => {
+    match session::find(t, room, format::COUNT, k.share.peer as u64, k.seid) {
+        Err(_) => {
             let used = changes::refuse(t, k, msg, causes::NO_SESSION, None, out);
-            return Replied {
-                used: used,
-                place: 0,
-            };
+            Replied { used, place: 0 }
         }
         Ok(p) => {
             if k.kind == kinds::DELETION {
                 return delete(t, k, msg, p, out);
             }
-            let words = taken.words;
-            let ips = addresses.words;
-            return changes::change(t, k, &words, &ips, msg, p, out);
+            changes::change(t, k, taken, addresses, msg, p, out)
         }
     }
 }
@@ -116,9 +98,7 @@ fn serve_of(t: &mut [u8], peer: u32, msg: &[u8], out: &mut [u8]) -> Result<Repli
         kind,
         seid,
     };
-    let taken = Taken { words };
-    let addresses = TakenAddresses { words: ips };
-    Ok(answer(t, known, taken, addresses, msg, out))
+    Ok(answer(t, known, &words, &ips, msg, out))
 }
 
 // One request on any octets, under any number as its peer's: outcome 7 for a number that is no peer's, before the table is looked at (02 (xiv)).

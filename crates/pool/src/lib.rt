@@ -1,5 +1,5 @@
 // The map of taken TEIDs. An offset is a TEID less the pool's first TEID; its bit is bit offset % 64 of word offset / 64.
-// A map is filled through a lent slice of words, so that no mark copies it, and made into the record `Taken` once.
+// A map is filled through a lent slice of words, so that no mark copies it.
 #![tactic(auto)]
 
 ghost use Rattle.std.specs.Prelude.{◌≡◌, ◌*◌, ◌≤◌, ◌<◌, length};
@@ -11,12 +11,6 @@ ghost use Rattle.rules.specs.Sound.{marked};
 pub const WORDS: usize = 1024;
 
 pub const ADDRESS_WORDS: usize = 16;
-
-// The map of taken TEIDs: words of 64 bits, a bit for each offset.
-#[derive(Clone, Copy)]
-pub struct Taken {
-    pub words: [u64; WORDS],
-}
 
 // Is offset i marked?
 pub fn is_marked(words: &[u64], i: usize) -> bool
