@@ -27,19 +27,19 @@ fn write_match(u: Settings, pdr: &[u8], out: &mut [u8], at: usize) -> usize
     requires { (length pdr.now ≡ pdr_width) × (at + length (match_element (settings_of u) (view_pdr pdr.now).match) ≤ length out.old) }
     ensures { Placed out.old at (match_element (settings_of u) (view_pdr pdr.now).match) result out.new }
 {
-    if pdr[format::MATCH] == 1 {
-        let teid = octets::read(pdr, format::TEID, 4);
-        return writing::write_fteid(u, teid, pdr[format::FAMILIES] as u64, out, at);
-    }
-    if pdr[format::MATCH] == 2 {
-        return writing::write_value(
+    match pdr[format::MATCH] {
+        1 => {
+            let teid = octets::read(pdr, format::TEID, 4);
+            writing::write_fteid(u, teid, pdr[format::FAMILIES] as u64, out, at)
+        }
+        2 => writing::write_value(
             types::ENDPOINT_ID,
             &pdr[format::NAMED_ENDPOINT..format::PDR_ADDRESS_THERE],
             out,
             at,
-        );
+        ),
+        _ => at,
     }
-    at
 }
 
 // The UE IP Address of a record, from its two fields: whether there is one, and the address.
@@ -242,9 +242,8 @@ fn write_elements(u: Settings, slot: &[u8], ipv4: &[u8], ipv6: &[u8], out: &mut 
     ensures { Placed out.old 16 (content (settings_of u) (view_session slot.now) ipv4.now ipv6.now) result out.new }
 {
     let seid = octets::read(slot, format::SEID, 8);
-    let flags = [1u8; 1];
     let own = writing::write_fseid(seid, ipv4, ipv6, out, header::BODY);
-    let next = writing::write_value(types::SESSION_FLAGS, &flags, out, own);
+    let next = writing::write_value(types::SESSION_FLAGS, &[1], out, own);
     write_records(u, slot, out, next)
 }
 

@@ -63,13 +63,6 @@ fseid_steps seid at e a b s h g p q =
 
 -- ---- elements with the peer's signalling address
 
-module _ (kind : ℕ) where
-  pub node_yes : kind ≡ establishment → true ≡ (eqb kind establishment || eqb kind set_deletion)
-  node_yes k = rw (eq-eqb kind establishment k)
-
-  pub node_second : (kind ≡ establishment → ⊥) → eqb kind set_deletion ≡ (eqb kind establishment || eqb kind set_deletion)
-  node_second k = rw (ne_eqb kind establishment k)
-
 module _ (kind at home : ℕ) (s : List ℕ) where
   pub node_not : {b : Bool} → b ≡ (eqb kind establishment || eqb kind set_deletion) → b ≡ false → Placed s at (node_id_element kind home) at s
   unfolding node_id_element

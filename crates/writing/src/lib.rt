@@ -1,4 +1,6 @@
 // The elements of replies and restorations, each written from a place on, with the place after it as the answer; and a message's header.
+// Stays: a Writer with out as a field was tried; its methods are proved, but `returns` of a caller of two: nothing ties its out to what the Writer left.
+// Stays: a kind is the octet of a request's header, which goes as it is into the reply's: an enum would be made of it and turned back.
 #![tactic(auto)]
 
 ghost use Rattle.std.specs.Prelude.{◌≡◌, ◌+◌, ◌*◌, ◌/◌, ◌%◌, ◌≤◌, ◌<◌, length, [], ◌∷◌, ◌++◌, ◌||◌, eqb};
@@ -50,10 +52,7 @@ pub fn write_number(kind: u64, n: usize, value: u64, out: &mut [u8], at: usize) 
 fn has_node_id(kind: u8) -> bool
     ensures { result ≡ (eqb kind establishment || eqb kind set_deletion) }
 {
-    if kind == kinds::ESTABLISHMENT_OCTET {
-        return true;
-    }
-    kind == kinds::SET_DELETION_OCTET
+    kind == kinds::ESTABLISHMENT_OCTET || kind == kinds::SET_DELETION_OCTET
 }
 
 // Node ID with the peer's signalling address, in the replies to establishments and set deletions only.
@@ -74,8 +73,7 @@ pub fn write_cause(cause: u8, out: &mut [u8], at: usize) -> usize
     requires { at + 5 ≤ length out.old }
     ensures { Placed out.old at (element ie.cause (cause ∷ [])) result out.new }
 {
-    let v = [cause; 1];
-    write_value(types::CAUSE, &v, out, at)
+    write_value(types::CAUSE, &[cause], out, at)
 }
 
 // Offending IE: the type at fault.
@@ -106,18 +104,14 @@ pub fn write_own_fseid(home: u64, kind: u8, seid: u64, out: &mut [u8], at: usize
     }
     let mut ipv4 = [0u8; 4];
     octets::write(&mut ipv4, 0, 4, home);
-    let none = [0u8; 1];
-    write_fseid(seid, &ipv4, &none[0..0], out, at)
+    write_fseid(seid, &ipv4, &[], out, at)
 }
 
 // The families of an F-TEID with the unit's addresses: V4 = 1, V6 = 2 where the unit has an IPv6 address.
 pub fn unit_families(u: Settings, families: u64) -> u64
     ensures { (result ≡ families_written (settings_of u) families) × (result < 4) }
 {
-    if u.has_ipv6 {
-        return families % 4;
-    }
-    families % 2
+    families % if u.has_ipv6 { 4 } else { 2 }
 }
 
 // An F-TEID with the unit's addresses.

@@ -18,20 +18,20 @@ write_fteid-requires c =
     let s = c in
     let xs = c.args.pdr.now in
     let u = c.args.u in
-    let e = match_tunnel xs c.requires.0 u c.if-pdr-eq1.true in
+    let e = match_tunnel xs c.requires.0 u c.in-1.is in
     (omega (arith, c.requires.1, rw e at c.requires.1, length_unit u (get_or xs families_at 0) (number (part teid_at 4 xs))))
 
-pub returns-then-pdr-eq1 : goal.returns-then-pdr-eq1
-returns-then-pdr-eq1 c = search match_tunnel_steps
+pub returns-in-1 : goal.returns-in-1
+returns-in-1 c = search match_tunnel_steps
 
 pub write_value-requires : goal.write_value-requires
 write_value-requires c =
     let s = c in
     let xs = c.args.pdr.now in
-    omega (arith, rw (match_endpoint_lem xs c.requires.0 c.args.u c.if-pdr-eq2.true) at c.requires.1, length_element ie.endpoint_id (part named_endpoint_at 1 xs))
+    omega (arith, rw (match_endpoint_lem xs c.requires.0 c.args.u c.in-2.is) at c.requires.1, length_element ie.endpoint_id (part named_endpoint_at 1 xs))
 
-pub returns-then-pdr-eq2 : goal.returns-then-pdr-eq2
-returns-then-pdr-eq2 c = search match_endpoint_steps
+pub returns-in-2 : goal.returns-in-2
+returns-in-2 c = search match_endpoint_steps
 
-pub returns : goal.returns
-returns c = search match_neither_steps
+pub returns-in_default : goal.returns-in_default
+returns-in_default c = search match_neither_steps
