@@ -9,8 +9,9 @@ ghost use Rattle.input.specs.Parts.{IsPart, HasNoPart};
 use std::io;
 use std::io::Read;
 
-// Reads until buf is full or the input ends: how many octets stand at the front of buf then. The only error is the reader's own, which leaves what was
-// read before it in buf.
+// Reads until buf is full or the input ends: how many octets stand at the front of buf then. The only error is the reader's own, which leaves
+// what was read before it in buf.
+// Stays: a while loop (d), for how far each turn goes is what the reader answers.
 pub fn read_full<R: Read>(reader: &mut R, buf: &mut [u8]) -> io::Result<usize>
     ensures within { IfOk result (λ n. n ≤ length buf.new) }
     ensures room { length buf.new ≡ length buf.old }

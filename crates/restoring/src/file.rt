@@ -48,6 +48,7 @@ fn is_old(all: usize, limit: usize) -> bool {
 
 // The table at the front of a file of so many octets in all, if it is sound and the stores or nothing follow; else what is wrong with it. Its
 // limit says its length, 0 where that is not allowed.
+// Stays: what the call answers goes into a place that is lent, as C lends it (a): pfcp_free_count.
 fn sound(front: &[u8], all: usize, said: usize) -> Result<&[u8], &'static str>
     ensures { IfOk result (λ t. (63 ≤ length t.now) × (length t.now ≤ length front.now)) }
 {

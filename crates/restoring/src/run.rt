@@ -70,6 +70,7 @@ fn cause(reply: &[u8; format::SPACE]) -> u8 {
 }
 
 // One request on the new table.
+// Stays: what the call answers goes into places that are lent, as C lends them (a): pfcp_request.
 fn serve(new: &mut [u8], request: &Request<'_>) -> Result<(), Fault> {
     let mut reply = [0u8; format::SPACE];
     let mut used = 0usize;

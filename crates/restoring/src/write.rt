@@ -57,6 +57,7 @@ fn octets_of<const N: usize>(address: &Option<[u8; N]>) -> &[u8] {
 }
 
 // The request of the session at place, in room; nothing past the last one.
+// Stays: what the call answers goes into places that are lent, as C lends them (a): pfcp_write_restoration.
 fn request_at<'a>(
     err: &impl Print,
     t: &[u8],
