@@ -43,10 +43,8 @@ pub fn next_free(words: &[u64], at: usize, size: usize) -> Option<usize>
     if size <= at {
         return None;
     }
-    let last = (size - 1) / 64;
-    let mut k = at / 64;
     let mut b = at % 64;
-    while k <= last {
+    for k in at / 64..(size - 1) / 64 + 1 {
         let open = !words[k] >> b;
         if open != 0 {
             let i = 64 * k + b + u64::trailing_zeros(open) as usize;
@@ -55,7 +53,6 @@ pub fn next_free(words: &[u64], at: usize, size: usize) -> Option<usize>
             }
             return None;
         }
-        k += 1;
         b = 0;
     }
     None
