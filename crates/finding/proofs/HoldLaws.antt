@@ -1,14 +1,12 @@
 -- Whether a TEID is held by the octets of a slot: record by record, and by the session that the slot is read as.
 -- Assumes nothing.
 use mathlib.Core.Path.{◌≡◌, refl, sym, ap, ◌∙◌}
-use Prim.Native.Nat.{ℕ, ◌+◌, ◌-◌, ◌*◌, ◌≤◌, ◌<◌}
-use native.Mathlib.Omega.{arith}
+use Prim.Native.Nat.{ℕ, ◌-◌}
 use mathlib.Core.Bool.{Bool, true, false, ◌&&◌, ◌||◌}
 use mathlib.Core.Option.{none, some}
 use mathlib.Core.List.{List, [], ◌∷◌, map}
 use Rattle.std.specs.List.{list_any}
 use lib.Dec.{eqb}
-use borrow.Author.Tests.{eq-eqb, ne_eqb}
 use lib.ListN.{length, take, drop, get_or}
 use Rattle.octets.specs.Choice.{pick, cons_option}
 use Rattle.octets.specs.Octets.{part, number, octet_at, slices}
@@ -21,8 +19,6 @@ use Rattle.rules.specs.Model.{Holding, teid_of, tunnel_holding, pdr_holding, end
 use Rattle.rules.specs.Layout.{tunnel_read, view_area, view_pdr, view_endpoint, view_session, pdr_width, endpoint_width, pdr_count_at, endpoint_count_at, pdrs_at, endpoints_at, match_at, teid_at, endpoint_teid_at}
 use Rattle.rules.specs.Finding.{is_holder}
 use Rattle.laws.proofs.LayoutLaws.{endpoint_view}
-use Rattle.records.proofs.Turns.{slices_more}
-use Rattle.session.proofs.Steps.{part_part}
 use Rattle.marking.specs.Marking.{holds_teid, held_by, pdr_holds, endpoint_holds}
 use Rattle.marking.proofs.Looking.{hold_of_lem, teid_of_lem}
 use Rattle.finding.specs.Holds.{endpoints_hold, pdrs_hold}
@@ -33,27 +29,16 @@ endpoint_teid : (xs : List ℕ) → teid_of (endpoint_holding (view_endpoint xs)
 unfolding endpoint_holding tunnel_holding tunnel_read
 endpoint_teid xs = rw (endpoint_view xs)
 
-module _ (teid n i : ℕ) (a : List ℕ) where
-  abbrev pub endpoints_from : ℕ → Bool
-  endpoints_from j = endpoints_hold teid (n - j) (drop (j * endpoint_width) a)
+any_teid : (teid : ℕ) (rows : List (List ℕ)) → list_any (λ row. eqb (number (part endpoint_teid_at 4 row)) teid) rows ≡ member teid (map teid_of (map endpoint_holding (map view_endpoint rows)))
+unfolding member
+any_teid teid [] = refl
+any_teid teid (row ∷ rows) =
+    (λ j. eqb (number (part endpoint_teid_at 4 row)) teid || any_teid teid rows j)
+    ∙ sym (rw (endpoint_teid row, eqb_turn teid (number (part endpoint_teid_at 4 row))))
 
-  module _ (h : i < n) (v : ℕ) (e : v ≡ number (part (i * endpoint_width + 1) 4 a)) where
-    endpoint_turn : endpoints_from i ≡ (eqb v teid || endpoints_from (i + 1))
-    unfolding endpoints_hold endpoint_holds member
-    endpoint_turn =
-        let one : teid_of (endpoint_holding (view_endpoint (part (i * endpoint_width) endpoint_width a))) ≡ v =
-        endpoint_teid (part (i * endpoint_width) endpoint_width a) ∙ ap number (part_part (i * endpoint_width) endpoint_width endpoint_teid_at 4 a (omega arith)) ∙ sym e in
-        rw (slices_more endpoint_width a n i h, one, eqb_turn teid v)
-
-    pub endpoint_here : v ≡ teid → endpoints_from i ≡ endpoints_hold teid n a → true ≡ endpoints_hold teid n a
-    endpoint_here s k = sym (endpoint_turn ∙ rw (eq-eqb v teid s)) ∙ k
-
-    pub endpoint_later : (v ≡ teid → ⊥) → endpoints_from i ≡ endpoints_hold teid n a → endpoints_from (i + 1) ≡ endpoints_hold teid n a
-    endpoint_later s k = sym (endpoint_turn ∙ rw (ne_eqb v teid s)) ∙ k
-
-  pub endpoints_end : n ≤ i → endpoints_from i ≡ endpoints_hold teid n a → false ≡ endpoints_hold teid n a
-  unfolding endpoints_hold endpoint_holds slices member
-  endpoints_end h k = let e : n - i ≡ 0 = omega arith in rw e at k
+pub endpoints_looked : (teid n : ℕ) (a : List ℕ) (rows : List (List ℕ)) → rows ≡ slices endpoint_width n a → list_any (λ row. eqb (number (part endpoint_teid_at 4 row)) teid) rows ≡ endpoints_hold teid n a
+unfolding endpoints_hold endpoint_holds
+endpoints_looked teid n a rows e = any_teid teid rows ∙ ap (λ (l : List (List ℕ)). member teid (map teid_of (map endpoint_holding (map view_endpoint l)))) e
 
 -- ---- PDRs
 

@@ -52,12 +52,8 @@ fn endpoints_hold(ends: &[u8], n: usize, teid: u64) -> bool
     requires { n * endpoint_width ≤ length ends.now }
     ensures { result ≡ endpoints_hold teid n ends.now }
 {
-    for i in 0..n {
-        if octets::read(ends, i * ENDPOINT + 1, 4) == teid {
-            return true;
-        }
-    }
-    false
+    let (rows, _) = ends.as_chunks::<ENDPOINT>();
+    rows[..n].iter().any(|row| octets::read(row, 1, 4) == teid)
 }
 
 // Whether one of n PDRs holds a TEID.

@@ -1,19 +1,20 @@
--- `finding::endpoints_hold` meets its contract: what is left of the endpoints gives the same answer.
+-- `finding::endpoints_hold` meets its contract.
 -- Assumes nothing.
-use mathlib.Core.Path.{◌≡◌}
-use Prim.Native.Nat.{◌-◌}
-use native.Mathlib.Omega.{arith}
-use Rattle.finding.proofs.HoldLaws.{endpoint_here, endpoint_later, endpoints_end}
+use Rattle.std.proofs.Common.{◌≡◌, ℕ, ◌≤◌, List, eqb, length, take, ◌∙◌, arith, rules}
+use borrow.Author.Tests.{tests}
+use Rattle.std.specs.List.{list_any}
+use Rattle.std.proofs.lemmas.Iterator.{YieldsList-from_slice}
+use Rattle.std.proofs.lemmas.Iterator.Search.{any_from_yields_List}
+use Rattle.octets.specs.Octets.{part, number}
+use Rattle.rules.specs.Layout.{endpoint_width, endpoint_teid_at}
+use Rattle.records.proofs.Chunks.{rows_before}
+use Rattle.finding.proofs.HoldLaws.{endpoints_looked}
 use Rattle.finding.proofs.endpoints_hold.Goals as goal
 
-pub loop-i-init : goal.loop-i-init
-loop-i-init c = let e : c.args.n - 0 ≡ c.args.n = omega arith in (omega arith, rw e)
-
-pub returns-then-read-teid : goal.returns-then-read-teid
-returns-then-read-teid c = search endpoint_here
-
-pub loop-i-preserved : goal.loop-i-preserved
-loop-i-preserved c = (omega arith, search endpoint_later)
-
 pub returns : goal.returns
-returns c = search endpoints_end
+returns c =
+    let g = c.args in
+    let enough : g.n ≤ length c.as_chunks.result.0.now = omega (arith, c.requires, c.as_chunks.ensures.front_len) in
+    let found : c.any.result ≡ list_any (λ (row : List ℕ). eqb (number (part endpoint_teid_at 4 row)) g.teid) (take g.n c.as_chunks.result.0.now) =
+    any_from_yields_List (λ (row : List ℕ). eqb (number (part endpoint_teid_at 4 row)) g.teid) _ _ c.any.result c.any.ensures.ran (YieldsList-from_slice (take g.n c.as_chunks.result.0.now) cc) (λ x b q k. search (rules, tests)) in
+    found ∙ endpoints_looked g.teid g.n g.ends.now _ (rows_before endpoint_width g.n _ g.ends.now _ c.as_chunks.ensures.front enough)
