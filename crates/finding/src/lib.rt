@@ -75,6 +75,7 @@ fn slot_holds(slot: &[u8], teid: u64) -> bool
 }
 
 // The first of the n sessions that holds a TEID.
+// Stays: `position` over the slots asks that slot_holds may be called of any slot (`position-requires-clause-callable`), and it is of counted ones alone.
 fn holder(t: &[u8], n: usize, teid: u64) -> Option<usize>
     requires { T (sound t.now) × (n ≡ length (view_sessions t.now)) }
     ensures { MatchOption result (holder_place teid (view_sessions t.now) ≡ none) (λ i. holder_place teid (view_sessions t.now) ≡ some i) }

@@ -1,4 +1,5 @@
 // Sequence numbers: that of a message, and which of two is newer (02 (xi)).
+// Stays: a number is a u64; newer is no order (it is not transitive), so that a type of its own would derive nothing, and wrap what one caller unwraps.
 ghost use Rattle.std.specs.Prelude.{◌≡◌, ◌^◌, ◌<◌, ◌≤◌, length};
 ghost use Rattle.rules.specs.Message.{header_length};
 ghost use Rattle.rules.specs.Repeats.{number_of, newer};
