@@ -191,6 +191,7 @@ pub fn write_record(u: Settings, kind: Kind, slot: &[u8], out: &mut [u8], at: us
 }
 
 // The elements of the first n records of an area.
+// Stays: chunks_exact over area[..n * w] was tried; `overflow_mul-n` did not close, since that the records fit says so only one by one.
 fn write_area(u: Settings, kind: Kind, area: &[u8], n: usize, out: &mut [u8], at: usize) -> usize
     requires { T (all (record_fits kind) (slices (record_width kind) n area.now)) × (at + length (concat_map (record_element kind (settings_of u)) (slices (record_width kind) n area.now)) ≤ length out.old) }
     ensures { Placed out.old at (concat_map (record_element kind (settings_of u)) (slices (record_width kind) n area.now)) result out.new }
