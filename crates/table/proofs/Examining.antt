@@ -1,14 +1,14 @@
 -- The answers of the calls that examine a table, return by return: premises are what the code knows there.
 -- Assumes nothing.
 use mathlib.Core.Path.{◌≡◌, refl, sym, ap, subst, transport, ◌∙◌}
-use Prim.Native.Nat.{ℕ, ◌+◌, ◌-◌, ◌*◌, ◌/◌, ◌^◌, ◌≤◌, ◌<◌}
+use Prim.Native.Nat.{ℕ, ◌+◌, ◌-◌, ◌*◌, ◌^◌, ◌≤◌, ◌<◌}
 use native.Mathlib.Omega.{arith}
 use mathlib.Core.Bool.{Bool, true, false, not, ◌&&◌}
 use mathlib.Core.List.{List, [], ◌∷◌, map}
-use borrow.Author.Tests.{ne_eqb, le-leb, lt-leb, not-true, not-false}
+use borrow.Author.Tests.{ne_eqb, not-true, not-false}
 use lib.ListN.{length, drop, replicate, length-drop}
 use lib.Seq.{take_all}
-use lib.Dec.{T, eqb, leb, ltb, leb→le, lt→ltb}
+use lib.Dec.{T, eqb, leb, ltb, lt→ltb}
 use Rattle.octets.specs.Choice.{pick}
 use Rattle.octets.specs.Octets.{part, number, slices, all_zero, octets}
 use Rattle.octets.specs.Lists.{all, all_pairs, ascending, distinct}
@@ -41,8 +41,7 @@ use Rattle.table.specs.Tests.{limit_of, session_count, slots_of, order_sound, fr
 use Rattle.table.specs.Answers.{Examined, counted, examined, count_told}
 use Rattle.table.proofs.SoundLaws.{settings_front, settings_from, sessions_are, count_are, sound_law, walk_says, front_kept}
 use Rattle.table.proofs.Walks.{teids_are, addresses_are, by_peer, slots_by_lem}
-use Rattle.octets.proofs.Bools.{and-true, and-false, both_ways}
-use mir.Facts.{yes_leb}
+use Rattle.octets.proofs.Bools.{and-true, and-false}
 use Rattle.octets.proofs.Tests.{is_true}
 
 -- ---- the front
@@ -99,53 +98,6 @@ front_facts t u is f q h =
       count = k.addresses.few;
       last = k.addresses.last;
     }
-
--- ---- the peers by numbers
-
-module _ (u : Unit) where
-  pub half_short : (first second : ℕ) → u.limit / 2 < first → false ≡ sessions_fit (settings_of u) first second
-  unfolding sessions_fit half settings_of
-  half_short first second h = sym (rw (lt-leb first (u.limit / 2) h))
-
-  pub half_last : (first second : ℕ) → first ≤ u.limit / 2 → leb second (u.limit / 2) ≡ sessions_fit (settings_of u) first second
-  unfolding sessions_fit half settings_of
-  half_last first second h = sym (rw (le-leb first (u.limit / 2) h))
-
-  module _ (one two : ℕ) where
-    pub teids_first : u.peer1.limit < one → false ≡ teids_fit (settings_of u) one two
-    unfolding teids_fit peer_of settings_of
-    teids_first h = sym (rw (lt-leb one u.peer1.limit h))
-
-    module _ (a : one ≤ u.peer1.limit) where
-      pub teids_second : u.peer2.limit < two → false ≡ teids_fit (settings_of u) one two
-      unfolding teids_fit peer_of settings_of
-      teids_second h = sym (rw (le-leb one u.peer1.limit a, lt-leb two u.peer2.limit h))
-
-      module _ (b : two ≤ u.peer2.limit) (rest : ℕ) (e : rest ≡ two + (u.peer2.guarantee - two)) where
-        pub teids_large : u.size < rest → false ≡ teids_fit (settings_of u) one two
-        unfolding teids_fit peer_of settings_of
-        teids_large h =
-            sym (rw (le-leb one u.peer1.limit a, le-leb two u.peer2.limit b)
-            (lt-leb (one + (u.peer1.guarantee - one) + (two + (u.peer2.guarantee - two))) u.size (omega arith)))
-
-        pub teids_last : (d : ℕ) → rest ≤ u.size → d ≡ one + (u.peer1.guarantee - one) → leb d (u.size - rest) ≡ teids_fit (settings_of u) one two
-        unfolding teids_fit peer_of settings_of
-        teids_last d l f =
-            sym (rw (le-leb one u.peer1.limit a, le-leb two u.peer2.limit b)
-            ((λ i. leb (sym f i + sym e i) u.size) ∙ moved d rest u.size l))
-          where
-            moved : (x y z : ℕ) → y ≤ z → leb (x + y) z ≡ leb x (z - y)
-            moved x y z l =
-                both_ways (leb (x + y) z) (leb x (z - y))
-                (λ h. let g = leb→le (x + y) z h in let k : x ≤ z - y = omega arith in yes_leb k)
-                (λ h. let g = leb→le x (z - y) h in let k : x + y ≤ z = omega arith in yes_leb k)
-
-module _ (s : Settings) (first second one two : ℕ) (a : Bool) (e : a ≡ sessions_fit s first second) where
-  pub fit_not : not a ≡ true → false ≡ (sessions_fit s first second && teids_fit s one two)
-  fit_not h = sym (rw (← e, not-true a h))
-
-  pub fit_both : not a ≡ false → (b : Bool) → b ≡ teids_fit s one two → b ≡ (sessions_fit s first second && teids_fit s one two)
-  fit_both h b f = f ∙ sym (rw (← e, not-false a h))
 
 -- ---- examining
 

@@ -46,12 +46,6 @@ unfolding settings_allowed settings_tests
 allowed_is a f z u k l b c v o =
     rw (eq-eqb (length (be 4 a)) 4 (length_be 4 a), is_true (octets (be 4 a)) (bytes_be 4 a), is_true (octets v) o, and-true (all_of (peers_tests z b c)))
 
-pub address_none : (n : ℕ) → n ≡ 0 → true ≡ (eqb n 0 || eqb n 16)
-address_none n e = sym (rw e)
-
-pub address_whole : (n : ℕ) → (n ≡ 0 → ⊥) → eqb n 16 ≡ (eqb n 0 || eqb n 16)
-address_whole n h = sym (rw (ne_eqb n 0 h))
-
 -- ---- how long a table is
 
 pub length_refused : (l : ℕ) (b : Bool) → b ≡ all_of (limit_tests l) → not b ≡ true → 0 ≡ length_for l

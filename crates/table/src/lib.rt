@@ -32,38 +32,28 @@ fn front_sound(t: &[u8], u: Settings) -> bool
 pub fn due(n: u64, guarantee: u64) -> u64
     ensures { result ≡ n + (guarantee - n) }
 {
-    if n < guarantee {
-        return guarantee;
-    }
-    n
+    n.max(guarantee)
 }
 
 // Whether each peer has its half of the sessions at most.
+#[tactic(auto, unfolding(crate::specs::Tests::sessions_fit, rules::specs::Model::half, unit::specs::Meaning::settings_of))]
 fn sessions_fit(u: Settings, first: usize, second: usize) -> bool
     ensures { result ≡ sessions_fit (settings_of u) first second }
 {
     let half = u.limit / 2;
-    if half < first as u64 {
-        return false;
-    }
-    second as u64 <= half
+    first as u64 <= half && second as u64 <= half
 }
 
 // Whether each peer holds its limit of TEIDs at most, and what the two hold or are guaranteed is not more than the pool.
+#[tactic(auto, unfolding(crate::specs::Tests::teids_fit, rules::specs::Model::peer_of, unit::specs::Meaning::settings_of))]
 fn teids_fit(u: Settings, one: usize, two: usize) -> bool
     ensures { result ≡ teids_fit (settings_of u) one two }
 {
-    if u.peer1.limit < one as u64 {
-        return false;
-    }
-    if u.peer2.limit < two as u64 {
-        return false;
-    }
     let rest = due(two as u64, u.peer2.guarantee);
-    if u.size < rest {
-        return false;
-    }
-    due(one as u64, u.peer1.guarantee) <= u.size - rest
+    one as u64 <= u.peer1.limit
+        && two as u64 <= u.peer2.limit
+        && rest <= u.size
+        && due(one as u64, u.peer1.guarantee) <= u.size - rest
 }
 
 // Both. second is how many sessions peer 2 has.
@@ -143,10 +133,7 @@ pub struct Refused;
 fn address_fits(n: usize) -> bool
     ensures { result ≡ (eqb n 0 || eqb n 16) }
 {
-    if n == 0 {
-        return true;
-    }
-    n == 16
+    n == 0 || n == 16
 }
 
 // Makes an empty table of the unit's IPv4 address, IPv6 address (16 octets, or none), first TEID and number of TEIDs, first address and
