@@ -123,6 +123,7 @@ fn admit_pdr(
 }
 
 // The area of n PDRs, in one walk: each is tested and marked, their IDs ascend, and the room after them is zero.
+// Stays: (d) one walk with `admit_endpoints` would take the step as a closure, and say of every closure what `Places` and `Stepped` say of these two.
 fn admit_pdrs(
     words: &mut [u64],
     area: &[u8],
