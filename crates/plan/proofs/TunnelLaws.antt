@@ -1,4 +1,6 @@
 -- The rules on one row's F-TEID, by the tests that code makes. Assumes nothing.
+use Rattle.std.specs.Prelude.{Option, Some, None}
+use Rattle.std.specs.Option.{is_none}
 use mathlib.Core.Path.{◌≡◌, refl, sym, ap, ap₂, ◌∙◌}
 use mathlib.Core.Bool.{Bool, true, false, not, ◌&&◌, ◌||◌, false≢true}
 use mathlib.Core.Option.{none, some}
@@ -15,7 +17,8 @@ use Rattle.rules.specs.Stages.{allocation_wrong, lacks_family, strange, other_ad
 use Rattle.plan.specs.Rows.{word, row_fteid}
 use Rattle.plan.specs.Words as its
 use Rattle.unit.specs.declared.Settings.{Settings as Unit}
-use Rattle.unit.specs.Meaning.{settings_of}
+use Rattle.unit.specs.declared.Ipv6.{Ipv6}
+use Rattle.unit.specs.Meaning.{ipv6_octets, settings_of}
 use Rattle.plan.specs.RowRules.{has_fteid, of_fteid, row_holding, row_ipv4, row_ipv6, restores}
 use Rattle.plan.proofs.AddressLaws.{other_none, other_four, same_be}
 use Rattle.plan.proofs.FteidLaws.{chooses_row, v6_row, given_row, row_is, fteid_by, hold_of, holding_row, restores_row, chooses_some}
@@ -27,19 +30,19 @@ unfolding of_fteid allocation_wrong
 wrong_row restoring row = rw (chooses_row row)
 
 -- a family that the unit lacks
-no_six : (u : Unit) → is_nil (settings_of u).ipv6 ≡ not u.has_ipv6
+no_six : (u : Unit) → is_nil (settings_of u).ipv6 ≡ is_none u.ipv6
 unfolding settings_of be
-no_six u = one u.has_ipv6 u.high u.low
+no_six u = one u.ipv6
   where
-    one : (b : Bool) (h l : ℕ) → is_nil (pick b (be 8 h ++ be 8 l) []) ≡ not b
-    one true h l = refl
-    one false h l = refl
+    one : (a : Option Ipv6) → is_nil (ipv6_octets a) ≡ is_none a
+    one None = refl
+    one (Some a) = refl
 
-pub lacks_row : (u : Unit) (row : List ℕ) → of_fteid (lacks_family (settings_of u)) row ≡ (not u.has_ipv6 && (has_fteid row && bit 1 (word its.flags row)))
+pub lacks_row : (u : Unit) (row : List ℕ) → of_fteid (lacks_family (settings_of u)) row ≡ (is_none u.ipv6 && (has_fteid row && bit 1 (word its.flags row)))
 unfolding of_fteid lacks_family unit_families
-lacks_row u row = rw (v6_row row, no_six u) (one u.has_ipv6 (has_fteid row) (bit 1 (word its.flags row)))
+lacks_row u row = rw (v6_row row, no_six u) (one (is_none u.ipv6) (has_fteid row) (bit 1 (word its.flags row)))
   where
-    one : (a b c : Bool) → (b && not (not c || not (not a))) ≡ (not a && (b && c))
+    one : (a b c : Bool) → (b && not (not c || not a)) ≡ (a && (b && c))
     one true true true = refl
     one true true false = refl
     one true false c = refl
@@ -58,10 +61,6 @@ four_some u row h = rw h (other_four u.ipv4 (word its.ipv4 row))
 six_none : (u : Unit) (row : List ℕ) → bit 1 (word its.flags row) ≡ false → other_address (settings_of u).ipv6 (row_ipv6 row) ≡ false
 six_none u row h = other_none (settings_of u).ipv6 (row_ipv6 row) (unfold row_ipv6 in (rw h))
 
-six_lacking : (u : Unit) (row : List ℕ) → bit 1 (word its.flags row) ≡ true → u.has_ipv6 ≡ false → other_address (settings_of u).ipv6 (row_ipv6 row) ≡ true
-unfolding row_ipv6 settings_of other_address be same_octets
-six_lacking u row h g = rw (h, g)
-
 same_six : (h l a b : ℕ) → h < 2 ^ 64 → l < 2 ^ 64 → a < 2 ^ 64 → b < 2 ^ 64 → same_octets (be 8 h ++ be 8 l) (be 8 a ++ be 8 b) ≡ (eqb h a && eqb l b)
 same_six h l a b p q r s =
     same_append (be 8 h) (be 8 l) (be 8 a) (be 8 b) (length_be 8 h ∙ sym (length_be 8 a))
@@ -73,12 +72,26 @@ filled : (x y : ℕ) → is_nil (be 8 x ++ be 8 y) ≡ false
 unfolding be
 filled x y = refl
 
-six_some : (u : Unit) (row : List ℕ) → bit 1 (word its.flags row) ≡ true → u.has_ipv6 ≡ true
-    → word its.ipv6_high row < 2 ^ 64 → word its.ipv6_low row < 2 ^ 64 → u.high < 2 ^ 64 → u.low < 2 ^ 64
-    → other_address (settings_of u).ipv6 (row_ipv6 row) ≡ not (eqb (word its.ipv6_high row) u.high && eqb (word its.ipv6_low row) u.low)
-unfolding row_ipv6 settings_of other_address
-six_some u row h g p q r s =
-    rw (h, g, same_six (word its.ipv6_high row) (word its.ipv6_low row) u.high u.low p q r s, filled (word its.ipv6_high row) (word its.ipv6_low row))
+six_lacking : (row : List ℕ) → bit 1 (word its.flags row) ≡ true → other_address [] (row_ipv6 row) ≡ true
+unfolding row_ipv6 other_address be same_octets
+six_lacking row h = rw h
+
+-- whether the unit's address is this one
+abbrev pub is_ipv6 : ℕ → ℕ → Option Ipv6 → Bool
+is_ipv6 h l None = false
+is_ipv6 h l (Some a) = eqb h a.high && eqb l a.low
+
+abbrev pub Wide : Option Ipv6 → Type 0
+Wide None = Prim.Unit {0}
+Wide (Some a) = (a.high < 2 ^ 64) × (a.low < 2 ^ 64)
+
+six_some : (a : Option Ipv6) (row : List ℕ) → bit 1 (word its.flags row) ≡ true
+    → word its.ipv6_high row < 2 ^ 64 → word its.ipv6_low row < 2 ^ 64 → Wide a
+    → other_address (ipv6_octets a) (row_ipv6 row) ≡ not (is_ipv6 (word its.ipv6_high row) (word its.ipv6_low row) a)
+unfolding row_ipv6 other_address
+six_some None row h p q w = six_lacking row h
+six_some (Some a) row h p q w =
+    rw (h, same_six (word its.ipv6_high row) (word its.ipv6_low row) a.high a.low p q w.0 w.1, filled (word its.ipv6_high row) (word its.ipv6_low row))
 
 pub four_row : (u : Unit) (row : List ℕ) → other_address (settings_of u).ipv4 (row_ipv4 row) ≡ (eqb (word its.flags row % 2) 1 && not (eqb (word its.ipv4 row % 4294967296) (u.ipv4 % 4294967296)))
 four_row u row = rw (← bit_zero (word its.flags row)) (one (bit 0 (word its.flags row)) refl)
@@ -87,15 +100,15 @@ four_row u row = rw (← bit_zero (word its.flags row)) (one (bit 0 (word its.fl
     one true e = four_some u row e
     one false e = four_none u row e
 
-pub six_row : (u : Unit) (row : List ℕ) → word its.ipv6_high row < 2 ^ 64 → word its.ipv6_low row < 2 ^ 64 → u.high < 2 ^ 64 → u.low < 2 ^ 64
-    → other_address (settings_of u).ipv6 (row_ipv6 row) ≡ (bit 1 (word its.flags row) && not (u.has_ipv6 && (eqb (word its.ipv6_high row) u.high && eqb (word its.ipv6_low row) u.low)))
-six_row u row p q r s = one (bit 1 (word its.flags row)) u.has_ipv6 refl refl
+pub six_row : (u : Unit) (row : List ℕ) → word its.ipv6_high row < 2 ^ 64 → word its.ipv6_low row < 2 ^ 64 → Wide u.ipv6
+    → other_address (settings_of u).ipv6 (row_ipv6 row) ≡ (bit 1 (word its.flags row) && not (is_ipv6 (word its.ipv6_high row) (word its.ipv6_low row) u.ipv6))
+unfolding settings_of
+six_row u row p q w = one (bit 1 (word its.flags row)) refl
   where
-    one : (b c : Bool) → bit 1 (word its.flags row) ≡ b → u.has_ipv6 ≡ c
-        → other_address (settings_of u).ipv6 (row_ipv6 row) ≡ (b && not (c && (eqb (word its.ipv6_high row) u.high && eqb (word its.ipv6_low row) u.low)))
-    one true true e f = six_some u row e f p q r s
-    one true false e f = six_lacking u row e f
-    one false c e f = six_none u row e
+    one : (b : Bool) → bit 1 (word its.flags row) ≡ b
+        → other_address (ipv6_octets u.ipv6) (row_ipv6 row) ≡ (b && not (is_ipv6 (word its.ipv6_high row) (word its.ipv6_low row) u.ipv6))
+    one true e = six_some u.ipv6 row e p q w
+    one false e = six_none u row e
 
 -- restored F-TEIDs
 restored_parts : (row : List ℕ) → is_some (row_holding row) ≡ true → (has_fteid row ≡ true) × (bit 2 (word its.flags row) ≡ false)

@@ -9,7 +9,7 @@ ghost use Rattle.unit.specs.Meaning.{settings_of};
 
 use crate::range;
 use format::{Row, types, words};
-use unit::Settings;
+use unit::{Ipv6, Settings};
 
 // Has the row an F-TEID? A Create Traffic Endpoint has one, a Create PDR if its flags say so.
 pub fn has_fteid(row: &Row) -> bool
@@ -47,7 +47,7 @@ pub fn wrong_allocation(row: &Row, restoring: bool) -> bool
 pub fn lacks_family(row: &Row, u: Settings) -> bool
     ensures { result ≡ of_fteid (lacks_family (settings_of u)) row.now }
 {
-    !u.has_ipv6 && has_fteid(row) && row[words::FLAGS] / 2 % 2 == 1
+    u.ipv6.is_none() && has_fteid(row) && row[words::FLAGS] / 2 % 2 == 1
 }
 
 // Is there an IPv4 address, and another one than the unit's?
@@ -62,7 +62,7 @@ fn other_ipv6(row: &Row, u: Settings) -> bool
     ensures { result ≡ other_address (settings_of u).ipv6 (row_ipv6 row.now) }
 {
     let (high, low) = (row[words::IPV6_HIGH], row[words::IPV6_LOW]);
-    row[words::FLAGS] / 2 % 2 == 1 && !(u.has_ipv6 && high == u.high && low == u.low)
+    row[words::FLAGS] / 2 % 2 == 1 && u.ipv6 != Some(Ipv6 { high, low })
 }
 
 // Cause 73: a restored F-TEID outside the pool, or with another address.

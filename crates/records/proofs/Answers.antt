@@ -1,5 +1,6 @@
 -- The answers of the record tests, return by return: premises are what the code knows there.
 -- Assumes nothing.
+use Rattle.std.specs.Option.{is_some}
 use mathlib.Core.Path.{◌≡◌, refl, sym, ap, ◌∙◌}
 use Prim.Native.Nat.{ℕ, suc, ◌+◌, ◌*◌, ◌/◌, ◌%◌, ◌^◌, ◌≤◌, ◌<◌}
 use native.Mathlib.Omega.{arith}
@@ -119,7 +120,7 @@ module _ (u : Unit) where
   fits h = h
 
   module _ (t f v : ℕ) (q : v ≡ t) where
-    pub tunnel_is : tunnel_test s t f ≡ (leb u.first v && (ltb v (u.first + u.size) && families_test f u.has_ipv6))
+    pub tunnel_is : tunnel_test s t f ≡ (leb u.first v && (ltb v (u.first + u.size) && families_test f (is_some u.ipv6)))
     unfolding settings_of
     tunnel_is = λ i. leb u.first (sym q i) && (ltb (sym q i) (u.first + u.size) && families_test f (ipv6_there u i))
 

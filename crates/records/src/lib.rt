@@ -53,7 +53,7 @@ fn tunnel_sound(slot: &[u8], at: usize, u: Settings) -> bool
     ensures { result ≡ tunnel_test (settings_of u) (number (part at 4 slot.now)) (get_or slot.now (at + 4) 0) }
 {
     let teid = octets::read(slot, at, 4);
-    u.first <= teid && teid < u.first + u.size && families_sound(slot[at + 4], u.has_ipv6)
+    u.first <= teid && teid < u.first + u.size && families_sound(slot[at + 4], u.ipv6.is_some())
 }
 
 // The families octet: IPv4, or IPv6 and perhaps IPv4 (2 and 3) where the unit has an IPv6 address.

@@ -13,6 +13,7 @@ use Rattle.octets.proofs.Tests.{pick_either}
 use Rattle.rules.specs.Model.{Settings, Tunnel}
 use Rattle.unit.specs.declared.Settings.{Settings as Unit}
 use Rattle.unit.specs.Meaning.{settings_of}
+use Rattle.unit.proofs.WriteLaws.{ipv6_short}
 use Rattle.rules.specs.Elements.{fteid_octets, unit_fteid, fseid_octets}
 use Rattle.rules.specs.Grants.{Kind, of_pdr, of_endpoint, same_kind}
 use Rattle.rules.specs.Stages.{Verdict}
@@ -39,8 +40,7 @@ unit_ipv4 u = omega (arith, length_be 4 u.ipv4)
 
 pub unit_ipv6 : (u : Unit) → length (settings_of u).ipv6 ≤ 16
 unfolding settings_of
-unit_ipv6 u =
-    pick_either (at_most 16) u.has_ipv6 (be 8 u.high ++ be 8 u.low) [] (omega (arith, length-append (be 8 u.high) (be 8 u.low), length_be 8 u.high, length_be 8 u.low)) (omega arith)
+unit_ipv6 u = ipv6_short u.ipv6
 
 pub length_offending : (o : Option ℕ) → length (offending_element o) ≤ 6
 unfolding offending_element

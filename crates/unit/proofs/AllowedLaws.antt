@@ -1,14 +1,15 @@
 -- Which settings are allowed, return by return. The value's addresses are whole by its widths; the pools and the session limit are left to test.
 -- Assumes nothing.
+use Rattle.std.specs.Prelude.{Option, Some, None}
 use mathlib.Core.Path.{◌≡◌, refl, sym, ◌∙◌}
 use mathlib.Core.Bool.{Bool, true, false, not, ◌&&◌, true≢false}
-use mathlib.Core.List.{[], ◌++◌}
+use mathlib.Core.List.{◌++◌}
 use Prim.Native.Nat.{ℕ, ◌+◌, ◌-◌, ◌≤◌, ◌<◌, ◌^◌}
 use native.Mathlib.Omega.{arith}
-use borrow.Author.Tests.{lt-leb, le-leb, eq-eqb, lt-ltb, le-ltb, ne_eqb}
+use borrow.Author.Tests.{lt-leb, le-leb, eq-eqb, lt-ltb, le-ltb}
 use lib.Dec.{leb, ltb, eqb}
 use lib.ListN.{length}
-use Rattle.octets.specs.Choice.{pick, all_of}
+use Rattle.octets.specs.Choice.{all_of}
 use Rattle.octets.specs.Octets.{be, octets}
 use Rattle.octets.proofs.Tests.{is_true}
 use Rattle.octets.proofs.Ordered.{orders}
@@ -16,22 +17,21 @@ use Rattle.octets.proofs.Numbers.{length_be, bytes_be}
 use Rattle.octets.proofs.Digits.{octets_append}
 use Rattle.octets.proofs.Bools.{and-false, and-true}
 use Rattle.rules.specs.Limits.{max_sessions, max_pool, max_addresses}
-use Rattle.rules.specs.Model.{is_peer}
 use Rattle.rules.specs.Sound.{pool_tests, address_pool_tests, limit_tests, ipv6_allowed, settings_tests, settings_allowed, peer_tests, peers_tests}
 use Rattle.unit.specs.declared.Settings.{Settings as Unit}
 use Rattle.unit.specs.declared.Peer as declared
-use Rattle.unit.specs.Meaning.{settings_of, range_tests, peer_from}
+use Rattle.unit.specs.declared.Ipv6.{Ipv6}
+use Rattle.unit.specs.Meaning.{ipv6_octets, settings_of, range_tests, peer_from}
 
--- an IPv6 address of two halves, or none
-module _ (a b : ℕ) where
-  six_allowed : (z : Bool) → ipv6_allowed (pick z (be 8 a ++ be 8 b) []) ≡ true
-  unfolding ipv6_allowed be
-  six_allowed true = refl
-  six_allowed false = refl
+-- an IPv6 address, or none
+ipv6_is_allowed : (a : Option Ipv6) → ipv6_allowed (ipv6_octets a) ≡ true
+unfolding ipv6_allowed be
+ipv6_is_allowed None = refl
+ipv6_is_allowed (Some a) = refl
 
-  six_octets : (z : Bool) → octets (pick z (be 8 a ++ be 8 b) []) ≡ true
-  six_octets true = is_true (octets (be 8 a ++ be 8 b)) (octets_append (be 8 a) (be 8 b) (bytes_be 8 a) (bytes_be 8 b))
-  six_octets false = refl
+ipv6_is_octets : (a : Option Ipv6) → octets (ipv6_octets a) ≡ true
+ipv6_is_octets None = refl
+ipv6_is_octets (Some a) = is_true (octets (be 8 a.high ++ be 8 a.low)) (octets_append (be 8 a.high) (be 8 a.low) (bytes_be 8 a.high) (bytes_be 8 a.low))
 
 -- ---- a pool, return by return
 
@@ -134,36 +134,4 @@ module _ (u : Unit) where
   pub allowed_is : settings_allowed (settings_of u) ≡ ((leb 1 u.first && teids) && (ips && (room && peers)))
   unfolding settings_allowed settings_tests settings_of pool_tests address_pool_tests
   allowed_is =
-      rw (eq-eqb (length (be 4 u.ipv4)) 4 (length_be 4 u.ipv4), is_true (octets (be 4 u.ipv4)) (bytes_be 4 u.ipv4), six_allowed u.high u.low u.has_ipv6, six_octets u.high u.low u.has_ipv6, and-true peers) refl
-
-  pub allowed_room : (b : Bool) → b ≡ room → not b ≡ true → false ≡ settings_allowed (settings_of u)
-  allowed_room true e h = absurd (true≢false (sym h))
-  allowed_room false e h = sym (allowed_is ∙ rw (← e, and-false ips) (and-false (leb 1 u.first && teids)))
-
-  pub allowed_first : u.first < 1 → false ≡ settings_allowed (settings_of u)
-  allowed_first h = sym (allowed_is ∙ rw (lt-leb 1 u.first h) refl)
-
-  pub allowed_teids : (b : Bool) → 1 ≤ u.first → b ≡ teids → not b ≡ true → false ≡ settings_allowed (settings_of u)
-  allowed_teids true f e h = absurd (true≢false (sym h))
-  allowed_teids false f e h = sym (allowed_is ∙ rw (le-leb 1 u.first f, ← e) refl)
-
-  pub allowed_ips : (b r : Bool) → 1 ≤ u.first → b ≡ teids → not b ≡ false → r ≡ ips → not r ≡ true → false ≡ settings_allowed (settings_of u)
-  allowed_ips b true f e h k l = absurd (true≢false (sym l))
-  allowed_ips b false f e h k l = sym (allowed_is ∙ rw (← k) (and-false (leb 1 u.first && teids)))
-
-  pub allowed_peers : (d b r p : Bool) → d ≡ room → not d ≡ false → 1 ≤ u.first → b ≡ teids → not b ≡ false → r ≡ ips → not r ≡ false → p ≡ peers → p ≡ settings_allowed (settings_of u)
-  allowed_peers true true true p g j f e h k l n = n ∙ sym (allowed_is ∙ rw (← g, le-leb 1 u.first f, ← e, ← k) refl)
-  allowed_peers true true false p g j f e h k l n = absurd (true≢false l)
-  allowed_peers true false r p g j f e h k l n = absurd (true≢false h)
-  allowed_peers false b r p g j f e h k l n = absurd (true≢false j)
-
--- ---- a peer's number
-
-module _ (peer : ℕ) where
-  pub peer_first : peer ≡ 1 → true ≡ is_peer peer
-  unfolding is_peer
-  peer_first e = sym (rw (eq-eqb peer 1 e))
-
-  pub peer_second : (peer ≡ 1 → ⊥) → eqb peer 2 ≡ is_peer peer
-  unfolding is_peer
-  peer_second e = sym (rw (ne_eqb peer 1 e))
+      rw (eq-eqb (length (be 4 u.ipv4)) 4 (length_be 4 u.ipv4), is_true (octets (be 4 u.ipv4)) (bytes_be 4 u.ipv4), ipv6_is_allowed u.ipv6, ipv6_is_octets u.ipv6, and-true peers) refl

@@ -1,21 +1,23 @@
 -- What the value's fields say of the rules' settings, and the other way. Assumes nothing.
 use mathlib.Core.Path.{◌≡◌, refl, ap}
-use mathlib.Core.Bool.{Bool, true, false, not}
-use mathlib.Core.List.{[], ◌++◌}
-use Rattle.octets.specs.Choice.{pick, is_nil}
+use mathlib.Core.Bool.{not}
+use Rattle.std.specs.Prelude.{Option, Some, None}
+use Rattle.std.specs.Option.{is_some}
+use Rattle.octets.specs.Choice.{is_nil}
 use Rattle.octets.specs.Octets.{be}
 use Rattle.rules.specs.Model.{Settings}
 use Rattle.unit.specs.declared.Settings.{Settings as Unit}
-use Rattle.unit.specs.Meaning.{settings_of}
+use Rattle.unit.specs.declared.Ipv6.{Ipv6}
+use Rattle.unit.specs.Meaning.{ipv6_octets, settings_of}
 
 module _ (u : Unit) where
-  pub ipv6_there : not (is_nil (settings_of u).ipv6) ≡ u.has_ipv6
+  pub ipv6_there : not (is_nil (settings_of u).ipv6) ≡ is_some u.ipv6
   unfolding settings_of be
-  ipv6_there = one u.has_ipv6
+  ipv6_there = one u.ipv6
     where
-      one : (b : Bool) → not (is_nil (pick b (be 8 u.high ++ be 8 u.low) [])) ≡ b
-      one true = refl
-      one false = refl
+      one : (a : Option Ipv6) → not (is_nil (ipv6_octets a)) ≡ is_some a
+      one None = refl
+      one (Some a) = refl
 
   module _ (s : Settings) (e : settings_of u ≡ s) where
     pub first_is : u.first ≡ s.first

@@ -1,18 +1,22 @@
 -- What the writer of settings leaves in a slot of zeros. Assumes nothing.
+use Rattle.std.specs.Prelude.{Option, Some, None}
+use Rattle.std.specs.Option.{is_some}
 use mathlib.Core.Path.{◌≡◌, refl, sym, ap, ap₂, ◌∙◌}
 use mathlib.Core.Bool.{Bool, true, false, not}
 use mathlib.Core.List.{List, [], ◌∷◌, ◌++◌, append_assoc, append-nil}
-use Prim.Native.Nat.{ℕ, ◌+◌, ◌-◌, ◌*◌, ◌≤◌}
+use Prim.Native.Nat.{ℕ, ◌+◌, ◌-◌, ◌≤◌}
 use native.Mathlib.Omega.{arith}
+use mir.Val.{bool_byte}
 use lib.ListN.{length, length-append}
-use Rattle.octets.specs.Choice.{pick, flag, is_nil}
+use Rattle.octets.specs.Choice.{flag, is_nil}
 use Rattle.octets.specs.Octets.{put, be, zeros, padded}
 use Rattle.octets.proofs.Numbers.{length_be, length_zeros, length_padded, zeros_split}
 use Rattle.octets.proofs.Put.{put_over, put_put}
 use Rattle.rules.specs.Layout.{settings_octets, settings_width, ipv6_there_at, ipv6_at, first_at, size_at, first_address_at, address_count_at, limit_at, peer_octets, peer1_at, peer2_at}
 use Rattle.unit.specs.declared.Settings.{Settings as Unit}
 use Rattle.unit.specs.declared.Peer as declared
-use Rattle.unit.specs.Meaning.{settings_of, number_octets, peer_from}
+use Rattle.unit.specs.declared.Ipv6.{Ipv6}
+use Rattle.unit.specs.Meaning.{ipv6_octets, settings_of, number_octets, peer_from}
 use Rattle.rules.specs.Model.{Peer}
 
 -- octets over the front of zeros
@@ -89,53 +93,43 @@ number_steps u s₀ s₁ s₂ s₃ s₄ s₅ s₆ s₇ long e₁ e₂ e₃ e₄ 
     ∙ put_put first_at 30 (((((a ++ b) ++ c) ++ d) ++ f) ++ g) h s₀ (omega arith) (omega arith)
     ∙ ap (λ (xs : List ℕ). put first_at xs s₀) (simp append_assoc)
 
--- the address in its halves, of no octets where there is none
-module _ (a b : ℕ) where
-  abbrev six : Bool → List ℕ
-  six z = pick z (be 8 a ++ be 8 b) []
+-- a test as an octet
+pub flag_byte : (b : Bool) → bool_byte b ≡ flag b
+flag_byte true = refl
+flag_byte false = refl
 
-  halves : (z : Bool) → be (8 * flag z) a ++ be (8 * flag z) b ≡ six z
-  unfolding be
-  halves true = refl
-  halves false = refl
+-- the address, of no octets where there is none
+ipv6_flag : (a : Option Ipv6) → be 1 (flag (is_some a)) ≡ flag (not (is_nil (ipv6_octets a))) ∷ []
+unfolding be
+ipv6_flag None = refl
+ipv6_flag (Some a) = refl
 
-  six_flag : (z : Bool) → be 1 (flag z) ≡ flag (not (is_nil (six z))) ∷ []
-  unfolding be
-  six_flag true = refl
-  six_flag false = refl
+pub ipv6_short : (a : Option Ipv6) → length (ipv6_octets a) ≤ 16
+ipv6_short None = omega arith
+ipv6_short (Some a) = omega (arith, length-append (be 8 a.high) (be 8 a.low), length_be 8 a.high, length_be 8 a.low)
 
-  six_short : (z : Bool) → length (six z) ≤ 16
-  six_short true = omega (arith, length-append (be 8 a) (be 8 b), length_be 8 a, length_be 8 b)
-  six_short false = omega arith
+pub ipv6_steps : (at : ℕ) (a : Ipv6) (s₀ s₁ s₂ : List ℕ) → at + 16 ≤ length s₀ → s₁ ≡ put at (be 8 a.high) s₀ → s₂ ≡ put (at + 8) (be 8 a.low) s₁ → s₂ ≡ put at (be 8 a.high ++ be 8 a.low) s₀
+ipv6_steps at a s₀ s₁ s₂ long e f = f ∙ ap (put (at + 8) (be 8 a.low)) e ∙ put_put at 8 (be 8 a.high) (be 8 a.low) s₀ (length_be 8 a.high) (omega arith)
 
-pub flag_small : (z : Bool) → flag z ≤ 1
-flag_small true = omega arith
-flag_small false = omega arith
-
-pub write_steps : (u : Unit) (n : ℕ) (s₀ s₁ s₂ s₃ s₄ s₅ : List ℕ) → s₀ ≡ zeros settings_width → n ≡ flag u.has_ipv6
-    → s₁ ≡ put 0 (be 4 u.ipv4) s₀ → s₂ ≡ put ipv6_there_at (be 1 n) s₁ → s₃ ≡ put ipv6_at (be (8 * n) u.high) s₂ → s₄ ≡ put (ipv6_at + 8 * n) (be (8 * n) u.low) s₃
+pub write_steps : (u : Unit) (n : ℕ) (s₀ s₁ s₂ s₄ s₅ : List ℕ) → s₀ ≡ zeros settings_width → n ≡ flag (is_some u.ipv6)
+    → s₁ ≡ put 0 (be 4 u.ipv4) s₀ → s₂ ≡ put ipv6_there_at (be 1 n) s₁ → s₄ ≡ put ipv6_at (ipv6_octets u.ipv6) s₂
     → s₅ ≡ put first_at (number_octets (settings_of u)) s₄
     → s₅ ≡ settings_octets (settings_of u)
 unfolding settings_octets settings_of number_octets
-write_steps u n s₀ s₁ s₂ s₃ s₄ s₅ e₀ en e₁ e₂ e₃ e₄ e₅ =
-    let z : Bool = u.has_ipv6 in
+write_steps u n s₀ s₁ s₂ s₄ s₅ e₀ en e₁ e₂ both e₅ =
     let four = be 4 u.ipv4 in
-    let v : List ℕ = six u.high u.low z in
+    let v : List ℕ = ipv6_octets u.ipv6 in
     let there = flag (not (is_nil v)) ∷ [] in
     let pad = padded 16 v in
-    let small = flag_small z in
-    let short : length v ≤ 16 = six_short u.high u.low z in
+    let short : length v ≤ 16 = ipv6_short u.ipv6 in
     let lv : length pad ≡ 16 = length_padded 16 v short in
-    let one : be 1 n ≡ there = ap (be 1) en ∙ six_flag u.high u.low z in
+    let one : be 1 n ≡ there = ap (be 1) en ∙ ipv6_flag u.ipv6 in
     let r₁ : s₁ ≡ four ++ (zeros 1 ++ (zeros 16 ++ zeros numbers_width)) =
     e₁ ∙ ap (put 0 four) (e₀ ∙ settings_room) ∙ put_over [] (zeros 4) (zeros 1 ++ (zeros 16 ++ zeros numbers_width)) four 0 refl (length_be 4 u.ipv4 ∙ sym (length_zeros 4)) in
     let r₂ : s₂ ≡ (four ++ there) ++ (zeros 16 ++ zeros numbers_width) =
     e₂ ∙ (λ i. put ipv6_there_at (one i) (r₁ i)) ∙ put_over four (zeros 1) (zeros 16 ++ zeros numbers_width) there ipv6_there_at (length_be 4 u.ipv4) (sym (length_zeros 1)) ∙ sym (append_assoc four there _) in
     let l₂ : length (four ++ there) ≡ ipv6_at = length-append four there ∙ ap (λ (n : ℕ). n + 1) (length_be 4 u.ipv4) in
     let long : first_at ≤ length s₂ = omega (arith, ap length r₂, length-append (four ++ there) (zeros 16 ++ zeros numbers_width), length-append (zeros 16) (zeros numbers_width), length_zeros 16, length_zeros numbers_width) in
-    let both : s₄ ≡ put ipv6_at v s₂ =
-    e₄ ∙ ap (put (ipv6_at + 8 * n) (be (8 * n) u.low)) e₃ ∙ put_put ipv6_at (8 * n) (be (8 * n) u.high) (be (8 * n) u.low) s₂ (length_be (8 * n) u.high) (omega arith)
-    ∙ ap (λ (xs : List ℕ). put ipv6_at xs s₂) (ap (λ (k : ℕ). be (8 * k) u.high ++ be (8 * k) u.low) en ∙ halves u.high u.low z) in
     let r₄ : s₄ ≡ ((four ++ there) ++ pad) ++ (zeros numbers_width ++ []) =
     both ∙ ap (put ipv6_at v) r₂ ∙ over_zeros ipv6_at (four ++ there) v (zeros numbers_width) l₂ short ∙ sym (append_assoc (four ++ there) pad (zeros numbers_width)) ∙ ap (λ (l : List ℕ). ((four ++ there) ++ pad) ++ l) (sym (append-nil (zeros numbers_width))) in
     let l₄ : length ((four ++ there) ++ pad) ≡ first_at = length-append (four ++ there) pad ∙ ap₂ ◌+◌ l₂ lv in

@@ -1,22 +1,27 @@
 -- Which of the rules' settings the code's value stands for, and which the parameters of a call.
 -- Assumes nothing.
-use Rattle.std.specs.Prelude.{ℕ, ◌+◌, ◌^◌, Bool, List, [], ◌∷◌, ◌++◌, leb}
-use Rattle.octets.specs.Choice.{pick}
+use Rattle.std.specs.Prelude.{ℕ, ◌+◌, ◌^◌, Bool, List, [], ◌∷◌, ◌++◌, leb, Option, Some, None}
 use Rattle.octets.specs.Octets.{be}
 use Rattle.rules.specs.Model.{Settings, Peer}
 use Rattle.rules.specs.Layout.{peer_octets}
 use Rattle.unit.specs.declared.Settings.{Settings as Unit}
 use Rattle.unit.specs.declared.Peer as declared
+use Rattle.unit.specs.declared.Ipv6.{Ipv6}
 
 abbrev pub peer_from : declared.Peer → Peer
 peer_from q = record { address = q.address; guarantee = q.guarantee; limit = q.limit }
 
--- the IPv4 address is a number of four octets, the IPv6 address two of eight
+-- an IPv6 address is two numbers of eight octets
+abbrev pub ipv6_octets : Option Ipv6 → List ℕ
+ipv6_octets None = []
+ipv6_octets (Some a) = be 8 a.high ++ be 8 a.low
+
+-- the IPv4 address is a number of four octets
 unfoldable pub settings_of : Unit → Settings
 settings_of u =
     record {
       ipv4 = be 4 u.ipv4;
-      ipv6 = pick u.has_ipv6 (be 8 u.high ++ be 8 u.low) [];
+      ipv6 = ipv6_octets u.ipv6;
       first = u.first;
       size = u.size;
       first_address = u.first_address;

@@ -1,4 +1,8 @@
 -- What the writers of single elements leave: for each, from what its calls and stores leave. Assumes nothing.
+use Rattle.std.specs.Prelude.{Option, Some, None}
+use Rattle.std.specs.Option as std
+use Rattle.unit.specs.declared.Ipv6.{Ipv6}
+use Rattle.unit.proofs.FieldLaws.{ipv6_there}
 use mathlib.Core.Path.{◌≡◌, refl, sym, ap, ap₂, ◌∙◌}
 use mathlib.Core.Bool.{Bool, true, false, not, ◌&&◌, ◌||◌}
 use mathlib.Core.Option.{some}
@@ -25,7 +29,7 @@ use Rattle.fteid.proofs.ValueLaws.{six, octets_given}
 use Rattle.ue_ip.proofs.ValueLaws.{length_given}
 use Rattle.fseid.proofs.ValueLaws.{length_fseid}
 use Rattle.unit.specs.declared.Settings.{Settings as Unit}
-use Rattle.unit.specs.Meaning.{settings_of}
+use Rattle.unit.specs.Meaning.{ipv6_octets, settings_of}
 use Rattle.writing.specs.Families.{families_written, unit_addresses, tunnel_in}
 use Rattle.writing.specs.Placed.{Placed}
 use Rattle.writing.specs.Heads.{message_head, list_head}
@@ -100,9 +104,12 @@ module _ (v : Unit) (families : ℕ) where
   abbrev st : Settings
   st = settings_of v
 
-  pub families_without : v.has_ipv6 ≡ false → (families % 2 ≡ families_written st families) × (families % 2 < 4)
+  six_there : (not (is_nil st.ipv6)) ≡ std.is_some v.ipv6
+  six_there = ipv6_there v
+
+  pub families_without : std.is_some v.ipv6 ≡ false → (families % 2 ≡ families_written st families) × (families % 2 < 4)
   unfolding families_written settings_of be
-  families_without z = (rw z (plain (bit 0 families) (bit 1 families) (bit_first families)), omega arith)
+  families_without z = (rw (six_there, z) (plain (bit 0 families) (bit 1 families) (bit_first families)), omega arith)
     where
       plain : (p q : Bool) → flag p ≡ families % 2 → families % 2 ≡ flag (p && true) + 2 * flag (q && false)
       plain true true e = sym e
@@ -110,9 +117,9 @@ module _ (v : Unit) (families : ℕ) where
       plain false true e = sym e
       plain false false e = sym e
 
-  pub families_with : v.has_ipv6 ≡ true → (families % 4 ≡ families_written st families) × (families % 4 < 4)
+  pub families_with : std.is_some v.ipv6 ≡ true → (families % 4 ≡ families_written st families) × (families % 4 < 4)
   unfolding families_written settings_of be
-  families_with z = (rw z (plain (bit 0 families) (bit 1 families) (bit_first families) (bit_number 1 families)), omega arith)
+  families_with z = (rw (six_there, z) (plain (bit 0 families) (bit 1 families) (bit_first families) (bit_number 1 families)), omega arith)
     where
       plain : (p q : Bool) → flag p ≡ families % 2 → flag q ≡ families / 2 % 2 → families % 4 ≡ flag (p && true) + 2 * flag (q && true)
       plain true true e g = omega arith
@@ -134,24 +141,34 @@ module _ (v : Unit) (families : ℕ) where
       by false false = omega arith
 
   module _ (teid : ℕ) where
+    -- the address, zeros where there is none
+    abbrev six_of : Option Ipv6 → Ipv6
+    six_of z = std.unwrap_or z (record { high = 0; low = 0 })
+
+    abbrev high : ℕ
+    high = (six_of v.ipv6).high
+
+    abbrev low : ℕ
+    low = (six_of v.ipv6).low
+
     -- the value's octets are the fields of the unit's numbers
-    unit_value : fteid_octets (unit_fteid st (tunnel_in teid families)) ≡ field_octets (fteid_widths has) (has ∷ teid ∷ v.ipv4 ∷ v.high ∷ v.low ∷ 0 ∷ [])
+    unit_value : fteid_octets (unit_fteid st (tunnel_in teid families)) ≡ field_octets (fteid_widths has) (has ∷ teid ∷ v.ipv4 ∷ high ∷ low ∷ 0 ∷ [])
     unfolding unit_fteid tunnel_in families_written settings_of be fteid_widths bit
-    unit_value = by (bit 0 families) (bit 1 families) v.has_ipv6
+    unit_value = by (bit 0 families) (bit 1 families) v.ipv6
       where
-        by : (p q z : Bool) → fteid_octets (given teid (pick p (be 4 v.ipv4) []) (pick q (pick z (be 8 v.high ++ be 8 v.low) []) []))
-            ≡ field_octets (fteid_widths (flag (p && true) + 2 * flag (q && not (is_nil (pick z (be 8 v.high ++ be 8 v.low) [])))))
-            ((flag (p && true) + 2 * flag (q && not (is_nil (pick z (be 8 v.high ++ be 8 v.low) [])))) ∷ teid ∷ v.ipv4 ∷ v.high ∷ v.low ∷ 0 ∷ [])
-        by true true true = octets_given true true 3 teid v.ipv4 v.high v.low 0 refl
-        by true true false = octets_given true false 1 teid v.ipv4 v.high v.low 0 refl
-        by true false z = octets_given true false 1 teid v.ipv4 v.high v.low 0 refl
-        by false true true = octets_given false true 2 teid v.ipv4 v.high v.low 0 refl
-        by false true false = octets_given false false 0 teid v.ipv4 v.high v.low 0 refl
-        by false false z = octets_given false false 0 teid v.ipv4 v.high v.low 0 refl
+        by : (p q : Bool) (z : Option Ipv6) → fteid_octets (given teid (pick p (be 4 v.ipv4) []) (pick q (ipv6_octets z) []))
+            ≡ field_octets (fteid_widths (flag (p && true) + 2 * flag (q && not (is_nil (ipv6_octets z)))))
+            ((flag (p && true) + 2 * flag (q && not (is_nil (ipv6_octets z)))) ∷ teid ∷ v.ipv4 ∷ (six_of z).high ∷ (six_of z).low ∷ 0 ∷ [])
+        by true true (Some a) = octets_given true true 3 teid v.ipv4 a.high a.low 0 refl
+        by true true None = octets_given true false 1 teid v.ipv4 0 0 0 refl
+        by true false z = octets_given true false 1 teid v.ipv4 (six_of z).high (six_of z).low 0 refl
+        by false true (Some a) = octets_given false true 2 teid v.ipv4 a.high a.low 0 refl
+        by false true None = octets_given false false 0 teid v.ipv4 0 0 0 refl
+        by false false z = octets_given false false 0 teid v.ipv4 (six_of z).high (six_of z).low 0 refl
 
     length_value : length (fteid_octets (unit_fteid st (tunnel_in teid families))) ≡ 5 + unit_addresses st families
     length_value =
-        ap length unit_value ∙ length_field_octets (fteid_widths has) (has ∷ teid ∷ v.ipv4 ∷ v.high ∷ v.low ∷ 0 ∷ []) (sym (six has)) ∙ widths_of_lem has has_small
+        ap length unit_value ∙ length_field_octets (fteid_widths has) (has ∷ teid ∷ v.ipv4 ∷ high ∷ low ∷ 0 ∷ []) (sym (six has)) ∙ widths_of_lem has has_small
 
     pub length_unit : length (unit_element st (tunnel_in teid families)) ≡ 9 + unit_addresses st families
     unfolding unit_element
@@ -162,14 +179,14 @@ module _ (v : Unit) (families : ℕ) where
       pub fteid_room : (at n : ℕ) → at + 9 + unit_addresses st families ≤ n → at + 4 + width_of (fteid_widths f) ≤ n
       fteid_room at n h = omega (arith, ap (λ (k : ℕ). width_of (fteid_widths k)) is ∙ widths_of_lem has has_small)
 
-      pub fteid_steps : (at e : ℕ) (s : List ℕ) {s₁ s₂ : List ℕ} → at + 9 + unit_addresses st families ≤ length s → e ≡ at + 4 + width_of (fteid_widths f)
-          → s₁ ≡ put (at + 4) (field_octets (fteid_widths f) (f ∷ teid ∷ v.ipv4 ∷ v.high ∷ v.low ∷ 0 ∷ [])) s → s₂ ≡ put at (be 2 ie.fteid ++ be 2 (e - (at + 4))) s₁
+      pub fteid_steps : (at e : ℕ) (s : List ℕ) {s₁ s₂ : List ℕ} (a : Ipv6) → a ≡ six_of v.ipv6 → at + 9 + unit_addresses st families ≤ length s → e ≡ at + 4 + width_of (fteid_widths f)
+          → s₁ ≡ put (at + 4) (field_octets (fteid_widths f) (f ∷ teid ∷ v.ipv4 ∷ a.high ∷ a.low ∷ 0 ∷ [])) s → s₂ ≡ put at (be 2 ie.fteid ++ be 2 (e - (at + 4))) s₁
           → Placed s at (unit_element st (tunnel_in teid families)) e s₂
       unfolding unit_element
-      fteid_steps at e s {s₁} h g p q =
+      fteid_steps at e s {s₁} a is_six h g p q =
           let x : List ℕ = fteid_octets (unit_fteid st (tunnel_in teid families)) in
           let l : length x ≡ width_of (fteid_widths f) = length_value ∙ sym (ap (λ (k : ℕ). width_of (fteid_widths k)) is ∙ widths_of_lem has has_small) in
-          let w : s₁ ≡ put (at + 4) x s = rw (unit_value, ← is) p in
+          let w : s₁ ≡ put (at + 4) x s = rw (unit_value, ← is) (rw is_six at p) in
           placed_element ie.fteid at (at + 4) (e - (at + 4)) e x s refl (omega arith) (omega arith) (omega arith) w q
 
 -- ---- UE IP Address

@@ -17,7 +17,7 @@ ghost use Rattle.writing.specs.Heads.{message_head, list_head};
 
 use format::{header, kinds, types};
 use fteid::FTeid;
-use unit::Settings;
+use unit::{Ipv6, Settings};
 
 // Type and length.
 pub fn write_head(kind: u64, n: usize, out: &mut [u8], at: usize)
@@ -111,7 +111,7 @@ pub fn write_own_fseid(home: u64, kind: u8, seid: u64, out: &mut [u8], at: usize
 pub fn unit_families(u: Settings, families: u64) -> u64
     ensures { (result ≡ families_written (settings_of u) families) × (result < 4) }
 {
-    families % if u.has_ipv6 { 4 } else { 2 }
+    families % if u.ipv6.is_some() { 4 } else { 2 }
 }
 
 // An F-TEID with the unit's addresses.
@@ -119,12 +119,13 @@ pub fn write_fteid(u: Settings, teid: u64, families: u64, out: &mut [u8], at: us
     requires { at + 9 + unit_addresses (settings_of u) families ≤ length out.old }
     ensures { Placed out.old at (unit_element (settings_of u) (tunnel_in teid families)) result out.new }
 {
+    let ipv6 = u.ipv6.unwrap_or(Ipv6 { high: 0, low: 0 });
     let v = FTeid {
         flags: unit_families(u, families),
         teid: teid,
         ipv4: u.ipv4,
-        ipv6_high: u.high,
-        ipv6_low: u.low,
+        ipv6_high: ipv6.high,
+        ipv6_low: ipv6.low,
         choose_id: 0,
     };
     let end = fteid::write_at(v, out, at + 4);
