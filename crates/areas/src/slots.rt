@@ -12,6 +12,7 @@ pub fn find(s: &[u8], w: usize, k: usize, n: usize, x: u64) -> Result<usize, usi
     requires { (n * w ≤ length s.now) × (k ≤ w) × (k ≤ 8) }
     ensures { result ≡ lookup x (map (key_of k) (slices w n s.now)) }
 {
+    // Stays: chunks_exact asks a width above 0, which no clause here asks.
     for i in 0..n {
         let y = octets::read(s, i * w, k);
         if x <= y {

@@ -39,28 +39,11 @@ module _ (room base : ℕ) where
   found_there a x t p e q = q ∙ ap (λ (b : Area). place_in b x t) e
 
   -- a session put where it was looked up
-  module _ {a : Area} (e : a ≡ sessions) (t slot : List ℕ) {q : Result ℕ ℕ} (p : ℕ) (at : place_in sessions (key_of key_width slot) t ≡ q) where
-    pub place_inside : q ≡ Ok p → p < a.room
-    place_inside l = rw e (let f = found_room sessions t (key_of key_width slot) p (at ∙ l) in omega arith)
+  pub place_there : (a : Area) (t slot : List ℕ) {q : Result ℕ ℕ} → a ≡ sessions → place_in sessions (key_of key_width slot) t ≡ q → place_in a (key_of a.key slot) t ≡ q
+  place_there a t slot e at = rw e at
 
-    pub place_next : q ≡ Err p → p ≤ count_in a t
-    place_next l = rw e (absent_room sessions t (key_of key_width slot) p (at ∙ l))
-
-    pub saved_over : q ≡ Ok p → {done : List ℕ} → done ≡ replaced_in a p slot t → done ≡ with_record sessions slot t
-    unfolding with_record
-    saved_over l d = d ∙ rw (e, at ∙ l)
-
-    pub saved_in : q ≡ Err p → {n : ℕ} {done : List ℕ} → n ≡ count_in a t → n < a.room → done ≡ inserted_in a p slot t → done ≡ with_record sessions slot t
-    unfolding with_record
-    saved_in l {n} c h d =
-        let less : count_in sessions t < room = rw e at (subst (λ (k : ℕ). k < a.room) c h) in
-        d ∙ rw (e, at ∙ l, lt-ltb (count_in sessions t) room less)
-
-    pub saved_nowhere : q ≡ Err p → {n : ℕ} → n ≡ count_in a t → a.room ≤ n → t ≡ with_record sessions slot t
-    unfolding with_record
-    saved_nowhere l {n} c h =
-        let full : room ≤ count_in sessions t = rw e at (subst (λ (k : ℕ). a.room ≤ k) c h) in
-        rw (at ∙ l, le-ltb (count_in sessions t) room full)
+  pub saved_there : (a : Area) (t slot done : List ℕ) → a ≡ sessions → done ≡ with_record a slot t → done ≡ with_record sessions slot t
+  saved_there a t slot done e d = d ∙ rw e
 
   -- what taking the session at a place out asks and leaves
   pub place_counted : (a : Area) (t : List ℕ) (p : ℕ) → a ≡ sessions → p < count_in sessions t → p < count_in a t

@@ -162,21 +162,12 @@ pub fn fresh(slot: &mut [u8], peer: u64, seid: u64)
     octets::write(slot, format::SEID, 8, seid);
 }
 
-// Makes the slot that of its peer and SEID, whose place was looked up: over the one that is there, or put in where there is room. As
-// areas::put_record, written out for slots: where their width is known, all that come after move at once.
+// Makes the slot that of its peer and SEID, whose place was looked up: over the one that is there, or put in where there is room.
 pub fn save(t: &mut [u8], room: usize, base: usize, place: Result<usize, usize>, slot: &[u8])
     requires { (base + 2 + room * session_width ≤ length t.old) × (length slot.now ≡ session_width) × (place_in (session_area room base) (key_of key_width slot.now) t.old ≡ place) }
     ensures { t.new ≡ with_record (session_area room base) slot.now t.old }
 {
-    let a = layout::sessions(room, base);
-    match place {
-        Ok(p) => areas::replace(t, a, p, slot),
-        Err(p) => {
-            if areas::count(t, a) < a.room {
-                areas::insert(t, a, p, slot);
-            }
-        }
-    }
+    areas::put_at(t, layout::sessions(room, base), place, slot);
 }
 
 // Takes the session at place p out.

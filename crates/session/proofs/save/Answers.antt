@@ -1,21 +1,9 @@
-use Rattle.session.proofs.SavedSteps.{sessions_fit_lem, session_wide, place_inside, place_next, saved_over, saved_in, saved_nowhere}
-use borrow.Author.Rules.{rules}
+-- `session::save` meets its contract. Assumes nothing.
+use Rattle.session.proofs.SavedSteps.{sessions_fit_lem, session_wide, place_there, saved_there}
 use Rattle.session.proofs.save.Goals as goal
 
-pub replace-requires : goal.replace-requires
-replace-requires c = (search sessions_fit_lem, search place_inside, search session_wide)
+pub put_at-requires : goal.put_at-requires
+put_at-requires c = (search sessions_fit_lem, search session_wide, search place_there)
 
-pub returns-in-Ok : goal.returns-in-Ok
-returns-in-Ok c = search saved_over
-
-pub count-requires : goal.count-requires
-count-requires c = search sessions_fit_lem
-
-pub insert-requires : goal.insert-requires
-insert-requires c = (search sessions_fit_lem, search place_next, search rules, search session_wide)
-
-pub returns-then-count-a : goal.returns-then-count-a
-returns-then-count-a c = search saved_in
-
-pub returns-else-count-a : goal.returns-else-count-a
-returns-else-count-a c = search saved_nowhere
+pub returns : goal.returns
+returns c = search saved_there
