@@ -6,7 +6,6 @@ ghost use Rattle.std.specs.Prelude.{◌≡◌, map, ◌+◌, ◌*◌, ◌≤◌,
 ghost use Rattle.octets.specs.Octets.{slices};
 ghost use Rattle.areas.specs.Records.{key_of, pair_key, lookup, inserted, removed, replaced};
 
-
 // Looks for the key x among the n records: the first record whose key is not below x.
 pub fn find(s: &[u8], w: usize, k: usize, n: usize, x: u64) -> Result<usize, usize>
     requires { (n * w ≤ length s.now) × (k ≤ w) × (k ≤ 8) }

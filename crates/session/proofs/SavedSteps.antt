@@ -1,11 +1,10 @@
 -- What the calls inside each function leave, over plain lists.
 -- Assumes nothing.
-use Rattle.std.specs.Prelude.{Result, Ok, Err}
-use mathlib.Core.Path.{◌≡◌, sym, ap, ◌∙◌, subst}
+use Rattle.std.specs.Prelude.{Result}
+use mathlib.Core.Path.{◌≡◌, sym, ap, ◌∙◌}
 use mathlib.Core.List.{List}
 use Prim.Native.Nat.{ℕ, ◌+◌, ◌-◌, ◌*◌, ◌≤◌, ◌<◌}
 use native.Mathlib.Omega.{arith}
-use borrow.Author.Tests.{lt-ltb, le-ltb}
 use lib.ListN.{length, take, drop}
 use Rattle.octets.specs.Octets.{be, part, put, zeros}
 use Rattle.octets.proofs.Put.{length_part, put_whole}
@@ -13,8 +12,7 @@ use Rattle.octets.proofs.Numbers.{length_zeros}
 use Rattle.rules.specs.Layout.{key_width, session_width}
 use Rattle.areas.specs.declared.Area.{Area}
 use Rattle.areas.specs.Records.{key_of}
-use Rattle.areas.specs.Counted.{Fits, count_in, area_in, place_in, inserted_in, removed_in, replaced_in, with_record}
-use Rattle.areas.proofs.Steps.{found_room, absent_room}
+use Rattle.areas.specs.Counted.{Fits, count_in, area_in, place_in, removed_in, with_record}
 use Rattle.session.specs.Areas.{session_area}
 use Rattle.session.proofs.Steps.{part_part}
 
