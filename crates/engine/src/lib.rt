@@ -18,6 +18,7 @@ use changes::Replied;
 use format::{causes, kinds};
 use frame::header::Header;
 use outcome::Outcome;
+use pool::Taken;
 use stages::Known;
 
 pub mod outcome;
@@ -44,20 +45,20 @@ fn delete(t: &mut [u8], k: Known, msg: &[u8], p: usize, out: &mut [u8]) -> Repli
     Replied { used, place: 0 }
 }
 
-// A request whose header is allowed, by the maps of taken TEIDs and addresses.
+// A request whose header is allowed. The maps come by value and are lent on; a deletion reads neither, so it copies neither.
 fn answer(
     t: &mut [u8],
     k: Known,
-    taken: &[u64],
-    addresses: &[u64],
+    taken: Taken<{ pool::WORDS }>,
+    addresses: Taken<{ pool::ADDRESS_WORDS }>,
     msg: &[u8],
     out: &mut [u8],
 ) -> Replied
-    requires { Asked t.old k.share.peer msg.now out.old × Counted k t.old taken.now addresses.now × (k.kind ≡ kind_of msg.now) × (k.seid ≡ header_seid msg.now) }
+    requires { Asked t.old k.share.peer msg.now out.old × Counted k t.old taken.words addresses.words × (k.kind ≡ kind_of msg.now) × (k.seid ≡ header_seid msg.now) }
     ensures { Replies t.old k.share.peer msg.now out.old result.used result.place out.new t.new }
 {
     if k.kind == kinds::ESTABLISHMENT {
-        return changes::change(t, k, taken, addresses, msg, 0, out);
+        return changes::change(t, k, &taken.words, &addresses.words, msg, 0, out);
     }
     let room = k.u.limit as usize;
     match session::find(t, room, format::COUNT, k.share.peer as u64, k.seid) {
@@ -69,7 +70,7 @@ fn answer(
             if k.kind == kinds::DELETION {
                 return delete(t, k, msg, p, out);
             }
-            changes::change(t, k, taken, addresses, msg, p, out)
+            changes::change(t, k, &taken.words, &addresses.words, msg, p, out)
         }
     }
 }
@@ -98,7 +99,9 @@ fn serve_of(t: &mut [u8], peer: u32, msg: &[u8], out: &mut [u8]) -> Result<Repli
         kind,
         seid,
     };
-    Ok(answer(t, known, &words, &ips, msg, out))
+    let taken = Taken { words };
+    let addresses = Taken { words: ips };
+    Ok(answer(t, known, taken, addresses, msg, out))
 }
 
 // One request on any octets, under any number as its peer's: outcome 7 for a number that is no peer's, before the table is looked at (02 (xiv)).

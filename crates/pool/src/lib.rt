@@ -1,5 +1,5 @@
 // The map of taken TEIDs. An offset is a TEID less the pool's first TEID; its bit is bit offset % 64 of word offset / 64.
-// A map is filled through a lent slice of words, so that no mark copies it.
+// A map is filled through a lent slice of words, so that no mark copies it, and made into the record `Taken` once.
 #![tactic(auto)]
 
 ghost use Rattle.std.specs.Prelude.{◌≡◌, ◌*◌, ◌≤◌, ◌<◌, length};
@@ -11,6 +11,12 @@ ghost use Rattle.rules.specs.Sound.{marked};
 pub const WORDS: usize = 1024;
 
 pub const ADDRESS_WORDS: usize = 16;
+
+// A map of taken numbers: words of 64 bits, a bit for each offset.
+#[derive(Clone, Copy)]
+pub struct Taken<const N: usize> {
+    pub words: [u64; N],
+}
 
 // Is offset i marked?
 pub fn is_marked(words: &[u64], i: usize) -> bool
