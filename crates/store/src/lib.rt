@@ -4,7 +4,7 @@
 // message, its reply's length (2) and the reply; docs/ has the layout.
 #![tactic(auto)]
 
-ghost use Rattle.std.specs.Prelude.{◌≡◌, ◌+◌, ◌-◌, ◌<◌, ◌≤◌, T, false, [], ◌∷◌, ◌++◌, length, MatchOption, is_ok};
+ghost use Rattle.std.specs.Prelude.{◌≡◌, ◌+◌, ◌-◌, ◌<◌, ◌≤◌, T, false, [], ◌∷◌, ◌++◌, length, MatchOption, is_ok, leb};
 ghost use Rattle.std.proofs.Math.Option.{none, some};
 ghost use Rattle.octets.specs.Octets.{put, same_octets};
 ghost use Rattle.octets.specs.Choice.{rest};
@@ -108,11 +108,18 @@ fn sound_from(s: &[u8], n: usize) -> bool
     octets::is_zero_long(rest, 0, rest.len())
 }
 
+// Whether a store may count so many entries.
+fn is_count(n: u8) -> bool
+    ensures { result ≡ leb n max_entries }
+{
+    n as usize <= ENTRIES
+}
+
 // Whether the store is not broken.
 pub fn is_sound(s: &[u8]) -> bool
     ensures { result ≡ store_sound s.now }
 {
-    s.len() == LENGTH && s[0] as usize <= ENTRIES && sound_from(&s[1..], s[0] as usize)
+    s.len() == LENGTH && is_count(s[0]) && sound_from(&s[1..], s[0] as usize)
 }
 
 // The reply that a message got.

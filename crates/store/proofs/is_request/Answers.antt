@@ -1,5 +1,5 @@
 -- `store::is_request` meets its contract. Assumes nothing.
-use Rattle.std.proofs.Common.{sym, ◌∙◌}
+use Rattle.std.proofs.Common.{◌∙◌}
 use Rattle.store.proofs.RequestTests.{read_tells}
 use Rattle.store.proofs.is_request.Goals as goal
 
