@@ -2,6 +2,7 @@
 -- Assumes nothing.
 use Rattle.std.specs.Prelude.{ℕ, ◌≡◌, Bool, ◌&&◌, List, [], ◌∷◌, ◌++◌, T, eqb, ltb, length, get_or, drop}
 use Rattle.octets.specs.Octets.{octet_at, slices}
+use Rattle.octets.specs.Choice.{pick}
 use Rattle.octets.specs.Lists.{all}
 use Rattle.octets.specs.Fields.{field_octets}
 use Rattle.rules.specs.Model.{Settings, Session}
@@ -14,6 +15,10 @@ use Rattle.restoration.specs.declared.Kind.{Kind}
 use Rattle.restoration.specs.declared.Kind.TheVariants as kind
 use Rattle.fqcsid.specs.declared.FqCsid.{FqCsid}
 use Rattle.fqcsid.specs.Meaning.{fqcsid_widths, fqcsid_numbers}
+
+-- the kind of a record's element, by its type: what is no PDR's and no endpoint's counts as an FQ-CSID's
+unfoldable pub kind_of_type : ℕ → Kind
+kind_of_type t = pick (eqb t ie.create_pdr) kind.Pdr (pick (eqb t ie.create_endpoint) kind.Endpoint kind.Csid)
 
 -- what the records of a kind are as wide as, are written as, and ask of their octets: the kind's width, and of an FQ-CSID a Node-ID type of four bits
 abbrev pub record_width : Kind → ℕ

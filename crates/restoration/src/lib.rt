@@ -15,7 +15,7 @@ ghost use Rattle.rules.specs.Restoring.{sender_addressed, session_at, restoratio
 ghost use Rattle.rules.specs.Types as ie;
 ghost use Rattle.unit.specs.Meaning.{settings_of};
 ghost use Rattle.writing.specs.Placed.{Placed};
-ghost use Rattle.restoration.specs.Records.{record_width, record_element, record_fits, CsidOf, SlotFits, content};
+ghost use Rattle.restoration.specs.Records.{kind_of_type, record_width, record_element, record_fits, CsidOf, SlotFits, content};
 ghost use Rattle.restoration.specs.Answers.{outcome_of, writing_of, Ready};
 
 use format::{header, kinds, types};
@@ -178,8 +178,32 @@ impl Kind {
     }
 }
 
-// A record's element.
-pub fn write_record(u: Settings, kind: Kind, slot: &[u8], out: &mut [u8], at: usize) -> usize
+// By the type of a record's element: what is no PDR's and no endpoint's counts as an FQ-CSID's.
+impl From<u64> for Kind {
+    ghost from_gives = { λ t kind. kind ≡ kind_of_type t };
+
+    fn from(kind: u64) -> Kind {
+        if kind == types::CREATE_PDR {
+            Kind::Pdr
+        } else if kind == types::CREATE_ENDPOINT {
+            Kind::Endpoint
+        } else {
+            Kind::Csid
+        }
+    }
+}
+
+// A record's element, by its type.
+// Stays: (a) a number for a kind: write_record promises of every number, and a narrower type would ask more.
+pub fn write_record(u: Settings, kind: u64, slot: &[u8], out: &mut [u8], at: usize) -> usize
+    requires { T (record_fits (kind_of_type kind) slot.now) × (at + length (record_element (kind_of_type kind) (settings_of u) slot.now) ≤ length out.old) }
+    ensures { Placed out.old at (record_element (kind_of_type kind) (settings_of u) slot.now) result out.new }
+{
+    write_of_kind(u, Kind::from(kind), slot, out, at)
+}
+
+// A record's element, by its kind.
+fn write_of_kind(u: Settings, kind: Kind, slot: &[u8], out: &mut [u8], at: usize) -> usize
     requires { T (record_fits kind slot.now) × (at + length (record_element kind (settings_of u) slot.now) ≤ length out.old) }
     ensures { Placed out.old at (record_element kind (settings_of u) slot.now) result out.new }
 {
@@ -200,7 +224,7 @@ fn write_area(u: Settings, kind: Kind, area: &[u8], n: usize, out: &mut [u8], at
     let mut rest = area;
     let mut next = at;
     for i in 0..n {
-        next = write_record(u, kind, &rest[..w], out, next);
+        next = write_of_kind(u, kind, &rest[..w], out, next);
         rest = &rest[w..];
     }
     next

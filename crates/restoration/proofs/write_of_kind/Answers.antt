@@ -1,6 +1,6 @@
--- `restoration::write_record` meets its contract. Assumes nothing.
+-- `restoration::write_of_kind` meets its contract. Assumes nothing.
 use Rattle.restoration.proofs.KindLaws.{fits_csid}
-use Rattle.restoration.proofs.write_record.Goals as goal
+use Rattle.restoration.proofs.write_of_kind.Goals as goal
 
 pub write_csid-requires : goal.write_csid-requires
 write_csid-requires c =
