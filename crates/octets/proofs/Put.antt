@@ -170,3 +170,52 @@ pub drop_take : {A : Type 0} (m n : ℕ) (l : List A) → drop m (take (m + n) l
 drop_take zero n l = rw zero-add
 drop_take (suc m) n [] = rw suc-add (sym (take-nil n))
 drop_take (suc m) n (x ∷ l) = rw suc-add (drop_take m n l)
+
+-- a part of a part
+pub part_part : (at n i k : ℕ) (s : List ℕ) → i + k ≤ n → part i k (part at n s) ≡ part (at + i) k s
+part_part at n i k s h =
+    let split : n ≡ i + (n - i) = omega arith in
+    ap (λ (m : ℕ). take k (drop i (take m (drop at s)))) split
+    ∙ ap (take k) (drop_take i (n - i) (drop at s))
+    ∙ take-take k (n - i) (drop i (drop at s)) (omega arith)
+    ∙ ap (take k) (drop-drop i at s)
+
+-- what is put within a part, which is put back
+pub put_within : (at n i : ℕ) (v s : List ℕ) → i + length v ≤ n → at + n ≤ length s → put at (put i v (part at n s)) s ≡ put (at + i) v s
+unfolding put
+put_within at n i v s h l =
+    let p : List ℕ = part at n s in
+    let front : List ℕ = take at s in
+    let long : length p ≡ n = length_part at n s l in
+    let size : length (take i p ++ (v ++ drop (i + length v) p)) ≡ n = length_put i v p (omega arith) ∙ long in
+    ap (λ (k : ℕ). front ++ ((take i p ++ (v ++ drop (i + length v) p)) ++ drop (at + k) s)) size
+    ∙ ap (λ (r : List ℕ). front ++ r) (append_assoc (take i p) (v ++ drop (i + length v) p) (drop (at + n) s) ∙ ap (λ (r : List ℕ). take i p ++ r) (append_assoc v (drop (i + length v) p) (drop (at + n) s)))
+    ∙ ap₂ (λ (b z : List ℕ). front ++ (b ++ (v ++ z))) (take-take i n (drop at s) (omega arith)) rest
+    ∙ sym (append_assoc front (take i (drop at s)) (v ++ drop (at + i + length v) s))
+    ∙ ap (λ (b : List ℕ). b ++ (v ++ drop (at + i + length v) s)) (sym (take-add at i s))
+  where
+    rest : drop (i + length v) (part at n s) ++ drop (at + n) s ≡ drop (at + i + length v) s
+    rest =
+        let k : ℕ = i + length v in
+        let m : n ≡ k + (n - k) = omega arith in
+        ap (λ (x : ℕ). drop k (take x (drop at s)) ++ drop (at + n) s) m
+        ∙ ap (λ (b : List ℕ). b ++ drop (at + n) s) (drop_take k (n - k) (drop at s))
+        ∙ ap (λ (z : List ℕ). take (n - k) (drop k (drop at s)) ++ z) (sym (drop-drop (n - k) k (drop at s) ∙ drop-drop (k + (n - k)) at s ∙ ap (λ (x : ℕ). drop (at + x) s) (sym m)))
+        ∙ take-append-drop (n - k) (drop k (drop at s))
+        ∙ drop-drop k at s
+        ∙ ap (λ (x : ℕ). drop x s) (omega arith)
+
+-- octets copied within a part that was lent
+pub put_moved : (at e i j to : ℕ) (s v : List ℕ) → at ≤ e → e ≤ length s → i ≤ j → j ≤ e - at → to + (j - i) ≤ e - at
+    → v ≡ paste (part at (e - at) s) to (drop i (part at (e - at) s)) (j - i)
+    → take at s ++ (v ++ drop (e - at) (drop at s)) ≡ put (at + to) (part (at + i) (j - i) s) s
+put_moved at e i j to s v h l o f t q =
+    let p : List ℕ = part at (e - at) s in
+    let x : List ℕ = part i (j - i) p in
+    let long : length p ≡ e - at = length_part at (e - at) s (omega arith) in
+    let size : length x ≡ j - i = length_part i (j - i) p (omega arith) in
+    let is : v ≡ put to x p = q ∙ put_copied i j to p o (omega arith) in
+    put_lent at e s v h l (ap length is ∙ length_put to x p (omega arith))
+    ∙ ap (λ (w : List ℕ). put at w s) is
+    ∙ put_within at (e - at) to x s (omega arith) (omega arith)
+    ∙ ap (λ (w : List ℕ). put (at + to) w s) (part_part at (e - at) i (j - i) s (omega arith))

@@ -9,8 +9,9 @@ use native.Mathlib.Numerals.{add-one}
 use native.Mathlib.Omega.{arith}
 use borrow.Author.Tests.{eq-eqb, ne_eqb}
 use lib.ListN.{length, take, drop, get_or}
-use lib.Seq.{drop-cons, take-take, drop-drop}
-use Rattle.octets.proofs.Put.{length_part, put_whole, drop_take}
+use lib.Seq.{drop-cons}
+use Rattle.octets.proofs.Put.{length_part, put_whole}
+pub use Rattle.octets.proofs.Put.{part_part}
 use Rattle.octets.specs.Choice.{pick}
 use Rattle.octets.specs.Octets.{be, part, put, zeros}
 use Rattle.octets.specs.Fields.{width_of, field_octets}
@@ -116,15 +117,6 @@ far_gone row s out n e q = q ∙ rw (ne_eqb _ _ n, eq-eqb _ _ e)
 pub far_kept : (row s : List ℕ) → (word its.has_far_id row ≡ 1 → ⊥) → (word its.has_far_id row ≡ 2 → ⊥) → s ≡ record_with_far row s
 unfolding record_with_far
 far_kept row s n m = rw (ne_eqb _ _ n, ne_eqb _ _ m)
-
--- a part of a part
-pub part_part : (at n i k : ℕ) (s : List ℕ) → i + k ≤ n → part i k (part at n s) ≡ part (at + i) k s
-part_part at n i k s h =
-    let split : n ≡ i + (n - i) = omega arith in
-    ap (λ (m : ℕ). take k (drop i (take m (drop at s)))) split
-    ∙ ap (take k) (drop_take i (n - i) (drop at s))
-    ∙ take-take k (n - i) (drop i (drop at s)) (omega arith)
-    ∙ ap (take k) (drop-drop i at s)
 
 pub updated_at_lem : (row s fresh rec mid new done : List ℕ) (p end : ℕ) (a : Area) → length s ≡ session_width → p < 16 → a ≡ area_of_pdrs → length fresh ≡ pdr_width → end ≡ pdrs_at + p * pdr_width + pdr_width
     → rec ≡ put 0 (take (end - (pdrs_at + p * pdr_width)) (drop (pdrs_at + p * pdr_width) s)) fresh → mid ≡ record_with_precedence row rec → new ≡ record_with_far row mid → done ≡ replaced_in a p new s

@@ -1,19 +1,23 @@
 -- What an FQ-CSID covers, octet by octet. Assumes nothing.
-use mathlib.Core.Path.{◌≡◌, refl, sym, ap, ◌∙◌}
-use Prim.Native.Nat.{ℕ, zero, suc, ◌+◌, ◌-◌, ◌*◌, ◌/◌, ◌%◌, ◌≤◌, ◌<◌}
+use mathlib.Core.Path.{◌≡◌, refl, sym, ap, ap₂, ◌∙◌, subst}
+use Prim.Native.Nat.{ℕ, ◌+◌, ◌-◌, ◌*◌, ◌/◌, ◌%◌, ◌≤◌}
 use native.Mathlib.Omega.{arith}
 use mathlib.Core.Bool.{Bool, true, false, ◌&&◌, ◌||◌}
 use mathlib.Core.List.{List, [], ◌∷◌, map}
-use lib.ListN.{length, take, drop, get_or, length-drop}
-use lib.Dec.{T, eqb}
+use lib.ListN.{length, take, drop, get_or}
+use lib.Dec.{T, eqb, eqb→eq}
 use borrow.Author.Tests.{eq-eqb, ne_eqb}
-use Rattle.octets.specs.Octets.{number, part, octets, octet_at, same_octets, slices}
+use Rattle.octets.specs.Choice.{pick}
+use Rattle.octets.specs.Octets.{be, number, part, octets, octet_at, same_octets, slices}
 use Rattle.octets.specs.Fields.{fields_at}
 use Rattle.octets.specs.Lists.{member, any}
 use Rattle.octets.proofs.FieldLaws.{octet_field}
-use Rattle.octets.proofs.Put.{part_from}
+use Rattle.octets.proofs.Digits.{be_number, part_octets}
+use Rattle.octets.proofs.Numbers.{same_refl, same_eq, same_append}
+use Rattle.octets.proofs.Put.{part_from, length_part, part_two}
+use Rattle.octets.proofs.Tests.{of_true}
 use Rattle.laws.proofs.LayoutLaws.{csid_address_lem}
-use Rattle.rules.specs.Layout.{csid_from, view_csid, view_area, view_session, csid_width, csids_at, csid_count_at, session_width, csid_id_type_at, csid_number_at, csid_address_at}
+use Rattle.rules.specs.Layout.{csid_from, view_csid, view_area, view_session, csid_width, csids_at, csid_count_at, csid_id_type_at, csid_number_at, csid_address_at}
 use Rattle.rules.specs.Elements as rules
 use Rattle.rules.specs.Elements.{address_length}
 use Rattle.rules.specs.Apply.{covers, covers_session}
@@ -84,3 +88,54 @@ pub covers_any : (v slot : List ℕ) (n : ℕ) → n ≡ get_or slot csid_count_
     → any (λ (c : List ℕ). covers (listed_in v) (view_csid c)) (first_chunks csid_width n (take (length slot - csids_at) (drop csids_at slot))) ≡ covers_session (view_session slot) (listed_in v)
 unfolding covers_session view_session view_area octet_at
 covers_any v slot n e = rw (chunks_slices, part_from, e) (any_map (covers (listed_in v)) view_csid (slices csid_width (get_or slot csid_count_at 0) (drop csids_at slot)))
+
+-- ---- two addresses by their numbers
+
+by_number : (p q : List ℕ) → T (octets p) → T (octets q) → length p ≡ length q → eqb (number p) (number q) ≡ same_octets p q
+by_number p q op oq l = go (same_octets p q) (eqb (number p) (number q)) refl refl
+  where
+    same : eqb (number p) (number q) ≡ true → p ≡ q
+    same e = sym (be_number p op) ∙ ap₂ be l (eqb→eq (number p) (number q) (of_true e)) ∙ be_number q oq
+
+    go : (a b : Bool) → same_octets p q ≡ a → eqb (number p) (number q) ≡ b → b ≡ a
+    go true true e f = refl
+    go false false e f = refl
+    go true false e f = sym f ∙ eq-eqb (number p) (number q) (ap number (same_eq p q (of_true e)))
+    go false true e f = sym (ap (same_octets p) (sym (same f)) ∙ same_refl p) ∙ e
+
+module _ (s v : List ℕ) (os : T (octets s)) (ov : T (octets v)) where
+  pub address_of : (i j n : ℕ) → i + n ≤ length s → j + n ≤ length v → eqb (number (part i n s)) (number (part j n v)) ≡ same_octets (part i n s) (part j n v)
+  address_of i j n h k = by_number (part i n s) (part j n v) (part_octets i n s os) (part_octets j n v ov) (length_part i n s h ∙ sym (length_part j n v k))
+
+  address_two : (i j : ℕ) → i + 16 ≤ length s → j + 16 ≤ length v
+      → (eqb (number (part i 8 s)) (number (part j 8 v)) && eqb (number (part (i + 8) 8 s)) (number (part (j + 8) 8 v))) ≡ same_octets (part i 16 s) (part j 16 v)
+  address_two i j h k =
+      ap₂ (λ (a b : Bool). a && b) (address_of i j 8 (omega arith) (omega arith)) (address_of (i + 8) (j + 8) 8 (omega arith) (omega arith))
+      ∙ sym (same_append (part i 8 s) (part (i + 8) 8 s) (part j 8 v) (part (j + 8) 8 v) (length_part i 8 s (omega arith) ∙ sym (length_part j 8 v (omega arith))))
+      ∙ ap₂ same_octets (part_two i 8 8 s) (part_two j 8 8 v)
+
+  module _ (i j : ℕ) (h : i + 16 ≤ length s) (k : j + 16 ≤ length v) where
+    abbrev later : Bool
+    later = eqb (number (part (i + 8) 8 s)) (number (part (j + 8) 8 v))
+
+    pub address_later : number (part i 8 s) ≡ number (part j 8 v) → later ≡ same_octets (part i 16 s) (part j 16 v)
+    address_later e = sym (ap (λ (b : Bool). b && later) (eq-eqb _ _ e)) ∙ address_two i j h k
+
+    pub address_front : (number (part i 8 s) ≡ number (part j 8 v) → ⊥) → eqb (number (part i 8 s)) (number (part j 8 v)) ≡ same_octets (part i 16 s) (part j 16 v)
+    address_front e = ne_eqb _ _ e ∙ sym (ap (λ (b : Bool). b && later) (ne_eqb _ _ e)) ∙ address_two i j h k
+
+-- an address has 4 octets or 16
+pub address_octets : (k n : ℕ) → n ≡ address_length k → T (eqb n 4 || eqb n 16)
+unfolding address_length
+address_octets k n e = rw e (go (eqb k 1))
+  where
+    go : (b : Bool) → T (eqb (pick b 16 4) 4 || eqb (pick b 16 4) 16)
+    go true = tt
+    go false = tt
+
+pub address_four : (n : ℕ) → (n ≡ 16 → ⊥) → T (eqb n 4 || eqb n 16) → n ≡ 4
+address_four n e h = eqb→eq n 4 (subst (λ (b : Bool). T b) (ap (λ (b : Bool). eqb n 4 || b) (ne_eqb n 16 e) ∙ or-false (eqb n 4)) h)
+  where
+    or-false : (b : Bool) → (b || false) ≡ b
+    or-false true = refl
+    or-false false = refl

@@ -1,11 +1,11 @@
 // Session sets (02 (vii)): the FQ-CSIDs that a Session Set Deletion Request lists, and the sessions that go.
 #![tactic(auto)]
 
-ghost use Rattle.std.specs.Prelude.{◌≡◌, ◌+◌, ◌*◌, ◌/◌, ◌≤◌, ◌<◌, [], ◌∷◌, eqb, length};
-ghost use Rattle.octets.specs.Octets.{octet_at, number};
+ghost use Rattle.std.specs.Prelude.{◌≡◌, ◌+◌, ◌*◌, ◌/◌, ◌≤◌, ◌<◌, ◌||◌, T, [], ◌∷◌, eqb, length};
+ghost use Rattle.octets.specs.Octets.{octet_at, number, part, same_octets};
 ghost use Rattle.octets.specs.Lists.{member, keep};
 ghost use Rattle.rules.specs.Limits.{max_message, node_types};
-ghost use Rattle.rules.specs.Layout.{table_length, session_width, csid_width, csid_count_at, view_session, view_csid, view_settings, view_sessions, encode};
+ghost use Rattle.rules.specs.Layout.{table_length, session_width, csid_width, csid_address_at, csid_count_at, view_session, view_csid, view_settings, view_sessions, encode};
 ghost use Rattle.rules.specs.Elements.{csids_read};
 ghost use Rattle.rules.specs.Message.{list_place, elements};
 ghost use Rattle.rules.specs.Reading.{done, list_read};
@@ -72,6 +72,20 @@ fn has_csid(cs: &[u8], m: usize, csid: u64) -> bool
     listed.iter().any(|two| is_csid(two, csid))
 }
 
+// Whether the address in the value v of an FQ-CSID, of 4 or 16 octets, is that of a slot's, by their numbers.
+fn same_address(v: &[u8], slot: &[u8], n: usize) -> bool
+    requires { T (eqb n 4 || eqb n 16) × (1 + n ≤ length v.now) × (csid_address_at + n ≤ length slot.now) }
+    ensures { result ≡ same_octets (part csid_address_at n slot.now) (part 1 n v.now) }
+{
+    let at = format::CSID_ADDRESS;
+    if n == 16 {
+        octets::read(slot, at, 8) == octets::read(v, 1, 8)
+            && octets::read(slot, at + 8, 8) == octets::read(v, 9, 8)
+    } else {
+        octets::read(slot, at, 4) == octets::read(v, 1, 4)
+    }
+}
+
 // Whether the FQ-CSID of value v, which has no fault, covers the one of a slot: node type, Node-ID type, address, and one of its CSIDs.
 fn covers(v: &[u8], slot: &[u8]) -> bool
     requires { Sized v.now × (length slot.now ≡ csid_width) }
@@ -85,7 +99,7 @@ fn covers(v: &[u8], slot: &[u8]) -> bool
     if v[0] / 16 != slot[format::CSID_ID_TYPE] {
         return false;
     }
-    if !octets::same(slot, format::CSID_ADDRESS, v, 1, a) {
+    if !same_address(v, slot, a) {
         return false;
     }
     has_csid(&v[1 + a..], m, octets::read(slot, format::CSID - 2, 2))
@@ -97,6 +111,9 @@ fn covers_session(v: &[u8], slot: &[u8]) -> bool
     ensures { result ≡ covers_session (view_session slot.now) (listed_in v.now) }
 {
     let n = slot[format::CSID_COUNT] as usize;
+    if n == 0 {
+        return false;
+    }
     let csids: &[[u8; format::CSID]] = plan::arrays(&slot[format::CSIDS..], n);
     csids.iter().any(|csid| covers(v, csid))
 }
