@@ -6,4 +6,5 @@ pub mod EntriesLaws
 pub mod StoreLaws
 pub mod NumberLaws
 pub mod HeldLaws
+pub mod WithinLaws
 pub mod KeepLaws

@@ -10,7 +10,7 @@ ghost use Rattle.octets.specs.Octets.{put, same_octets};
 ghost use Rattle.octets.specs.Choice.{rest};
 ghost use Rattle.rules.specs.Store.{entry, entry_octets, store_length, store_octets, store_entries, request_allowed, store_sound, stored_reply, remember, max_entries, empty};
 ghost use Rattle.rules.specs.Repeats.{takes};
-ghost use Rattle.store.specs.Answers.{Keepable};
+ghost use Rattle.store.specs.Answers.{Recalls, Keepable};
 ghost use Rattle.store.specs.Fronts.{whole_front, Front, span_of, reply_among, sound_from};
 
 mod number;
@@ -122,10 +122,10 @@ pub fn is_sound(s: &[u8]) -> bool
     s.len() == LENGTH && is_count(s[0]) && sound_from(&s[1..], s[0] as usize)
 }
 
-// The reply that a message got.
+// The reply that a message got: octets of the store.
 pub fn recall<'a>(s: &'a [u8], msg: &[u8]) -> Option<&'a [u8]>
     requires { T (store_sound s.now) }
-    ensures { MatchOption result (stored_reply msg.now (store_entries s.now) ≡ none) (λ reply. stored_reply msg.now (store_entries s.now) ≡ some reply.now) }
+    ensures { MatchOption result (stored_reply msg.now (store_entries s.now) ≡ none) (λ reply. Recalls s.now msg.now reply.now) }
 {
     find(&s[1..], s[0] as usize, msg)
 }

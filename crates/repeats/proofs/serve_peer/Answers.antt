@@ -15,10 +15,10 @@ pub recall-requires : goal.recall-requires
 recall-requires c = (of_true (sym c.is_sound.ensures ∙ not-false _ c.if-not-is_sound.false-raw))
 
 pub repeat-requires : goal.repeat-requires
-repeat-requires c = reply_short c.args.t.now c.args.peer c.requires c.args.store.now c.args.msg.now c.args.out.now _ c.is_sound.ensures (not-false _ c.if-not-is_sound.false-raw) _ c.is_request.ensures (not-false _ c.if-not-is_request.false-raw) _ c.in-Some.ensures
+repeat-requires c = reply_short c.args.t.now c.args.peer c.requires c.args.store.now c.args.msg.now c.args.out.now _ c.is_sound.ensures (not-false _ c.if-not-is_sound.false-raw) _ c.is_request.ensures (not-false _ c.if-not-is_request.false-raw) _ c.in-Some.ensures.means
 
 pub returns-in-Some : goal.returns-in-Some
-returns-in-Some c = once_again c.args.t.now c.args.peer c.requires c.args.store.now c.args.msg.now c.args.out.now _ c.is_sound.ensures (not-false _ c.if-not-is_sound.false-raw) _ c.is_request.ensures (not-false _ c.if-not-is_request.false-raw) _ c.in-Some.ensures _ _ _ _ c.repeat.ensures
+returns-in-Some c = once_again c.args.t.now c.args.peer c.requires c.args.store.now c.args.msg.now c.args.out.now _ c.is_sound.ensures (not-false _ c.if-not-is_sound.false-raw) _ c.is_request.ensures (not-false _ c.if-not-is_request.false-raw) _ c.in-Some.ensures.means _ _ _ _ c.repeat.ensures
 
 pub takes-requires : goal.takes-requires
 takes-requires c = ((of_true (sym c.is_sound.ensures ∙ not-false _ c.if-not-is_sound.false-raw)), (of_true (sym c.is_request.ensures ∙ not-false _ c.if-not-is_request.false-raw)))

@@ -1,6 +1,7 @@
 -- `store::recall` meets its contract. Assumes nothing.
 use Rattle.std.proofs.Common.{arith}
-use Rattle.store.proofs.HeldLaws.{store_long, among_is}
+use Rattle.store.proofs.HeldLaws.{store_long}
+use Rattle.store.proofs.WithinLaws.{recalls}
 use Rattle.store.proofs.recall.Goals as goal
 
 pub slice_bounds-find-count : goal.slice_bounds-find-count
@@ -13,4 +14,4 @@ pub bounds-s-0 : goal.bounds-s-0
 bounds-s-0 c = omega (arith, store_long _ c.requires)
 
 pub returns : goal.returns
-returns c = rw (among_is _ c.requires c.args.msg.now) at c.find.ensures
+returns c = recalls (λ r. r.now) _ _ c.requires _ c.find.ensures
