@@ -176,6 +176,17 @@ impl Kind {
             Kind::Csid => format::CSID,
         }
     }
+
+    // The type of its records' elements.
+    fn element_type(self) -> u64
+        ensures { kind_of_type result ≡ self }
+    {
+        match self {
+            Kind::Pdr => types::CREATE_PDR,
+            Kind::Endpoint => types::CREATE_ENDPOINT,
+            Kind::Csid => types::FQCSID,
+        }
+    }
 }
 
 // By the type of a record's element: what is no PDR's and no endpoint's counts as an FQ-CSID's.
@@ -224,7 +235,7 @@ fn write_area(u: Settings, kind: Kind, area: &[u8], n: usize, out: &mut [u8], at
     let mut rest = area;
     let mut next = at;
     for i in 0..n {
-        next = write_of_kind(u, kind, &rest[..w], out, next);
+        next = write_record(u, kind.element_type(), &rest[..w], out, next);
         rest = &rest[w..];
     }
     next
