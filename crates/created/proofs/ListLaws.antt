@@ -52,6 +52,10 @@ firsts_told plan (p ∷ places) =
 pub listed_filled : (plan places : List ℕ) (l : List Entry) → listed (length places) (filled (entry_at plan places) (length places) l) ≡ tolds_at plan places
 listed_filled plan places l = ap (map told_of) (take_filled (entry_at plan places) (length places) l) ∙ firsts_told plan places
 
+-- what a whole list tells
+pub listed_all : (es : List Entry) → listed (length es) es ≡ map told_of es
+listed_all es = ap (map told_of) (take_all (length es) es (omega arith))
+
 -- ---- the groups of one kind, entry after entry
 
 groups_append : (k : Kind) (s : Settings) (xs ys : List Told) → groups k s (xs ++ ys) ≡ groups k s xs ++ groups k s ys

@@ -3,14 +3,14 @@
 // The list is made for each request: an array of 24 entries, lent as a slice to be filled and then lent to the writer of the groups.
 #![tactic(auto)]
 
-ghost use Rattle.std.specs.Prelude.{◌≡◌, true, [], ◌∷◌, ◌++◌, ◌+◌, ◌≤◌, ◌<◌, T, map, length};
+ghost use Rattle.std.specs.Prelude.{◌≡◌, true, [], ◌∷◌, ◌++◌, ◌+◌, ◌≤◌, ◌<◌, T, length};
 ghost use Rattle.octets.specs.Octets.{be};
 ghost use Rattle.octets.specs.Lists.{all};
 ghost use Rattle.rules.specs.Reply.{element, tunnel_part, address_part, chosen_elements, created};
 ghost use Rattle.unit.specs.Meaning.{settings_of};
 ghost use Rattle.writing.specs.Placed.{Placed};
 ghost use Rattle.created.specs.Groups.{kind_in, groups, id_fits};
-ghost use Rattle.created.specs.Entries.{max_grants, granted_tunnel, granted_address, told_of, row_id, row_entry, entry_at, tolds_at, reports_at, within, filled};
+ghost use Rattle.created.specs.Entries.{max_grants, granted_tunnel, granted_address, told_of, listed, row_id, row_entry, entry_at, tolds_at, reports_at, within, filled};
 
 use format::{Row, types, words};
 use unit::Settings;
@@ -143,8 +143,8 @@ fn fill(grants: &mut [Grant], plan: &[u64], places: &[usize])
 
 // The groups of the grants of one kind, in their order.
 fn write_groups(u: Settings, grants: &[Grant], kind: u64, out: &mut [u8], at: usize) -> usize
-    requires { (all id_fits (map told_of grants.now) ≡ true) × (at + length (groups (kind_in kind) (settings_of u) (map told_of grants.now)) ≤ length out.old) }
-    ensures { Placed out.old at (groups (kind_in kind) (settings_of u) (map told_of grants.now)) result out.new }
+    requires { (all id_fits (listed (length grants.now) grants.now) ≡ true) × (at + length (groups (kind_in kind) (settings_of u) (listed (length grants.now) grants.now)) ≤ length out.old) }
+    ensures { Placed out.old at (groups (kind_in kind) (settings_of u) (listed (length grants.now) grants.now)) result out.new }
 {
     let mut next = at;
     for grant in grants {
