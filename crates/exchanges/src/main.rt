@@ -14,7 +14,7 @@
 // lines in `stdout` are the second implementation's.
 #![tactic(auto)]
 
-ghost use Rattle.std.specs.Prelude.{◌≡◌, ◌+◌, ◌≤◌, length};
+ghost use Rattle.std.specs.Prelude.{◌≡◌, ◌+◌, ◌≤◌, length, IfOk, OnErr};
 
 use changes::Replied;
 use engine::outcome::Outcome;
@@ -99,7 +99,10 @@ impl Table {
     }
 
     // Makes an empty table with the settings in s; where it is refused, the table stays.
-    fn make(&mut self, s: &[u8; MAKING]) -> Result<(), Refused> {
+    fn make(&mut self, s: &[u8; MAKING]) -> Result<(), Refused>
+        ensures within { IfOk result (λ made. self.new.end ≤ 9729) }
+        ensures kept { OnErr result (self.new.end ≡ self.old.end) }
+    {
         let limit = number_at(s, 21);
         let end = table::length_for(limit);
         if ROOM < end {
@@ -139,7 +142,9 @@ impl Table {
     }
 
     // One request of a peer.
-    fn request(&mut self, rt: &impl Print, peer: u8, msg: &[u8]) -> io::Result<()> {
+    fn request(&mut self, rt: &impl Print, peer: u8, msg: &[u8]) -> io::Result<()>
+        ensures { self.new.end ≡ self.old.end }
+    {
         let mut reply = [0u8; format::SPACE];
         let end = self.end();
         let got = engine::serve(&mut self.room[..end], peer as u32, msg, &mut reply);
@@ -153,7 +158,9 @@ impl Table {
         peer: u8,
         store: &mut [u8],
         msg: &[u8],
-    ) -> io::Result<()> {
+    ) -> io::Result<()>
+        ensures { self.new.end ≡ self.old.end }
+    {
         let mut reply = [0u8; format::SPACE];
         let end = self.end();
         let got = repeats::serve_once(&mut self.room[..end], peer as u32, store, msg, &mut reply);
@@ -171,7 +178,9 @@ struct Unit {
 
 impl Unit {
     // A new table empties the stores.
-    fn remake(&mut self, rt: &impl Print, s: &[u8; MAKING]) -> io::Result<()> {
+    fn remake(&mut self, rt: &impl Print, s: &[u8; MAKING]) -> io::Result<()>
+        ensures { self.old.table.end ≤ 9729 → self.new.table.end ≤ 9729 }
+    {
         let made = self.table.make(s);
         if made.is_ok() {
             let _ = store::clear(&mut self.one);
@@ -181,7 +190,9 @@ impl Unit {
     }
 
     // The peer's store is lent; with a number that is no peer's either does, for neither is looked at.
-    fn request_once(&mut self, rt: &impl Print, peer: u8, msg: &[u8]) -> io::Result<()> {
+    fn request_once(&mut self, rt: &impl Print, peer: u8, msg: &[u8]) -> io::Result<()>
+        ensures { self.new.table.end ≡ self.old.table.end }
+    {
         let Unit { table, one, two } = self;
         if peer == 2 {
             table.request_once(rt, peer, two, msg)
@@ -191,7 +202,9 @@ impl Unit {
     }
 
     // Changes an octet of a peer's store, if there is such a peer and so many octets.
-    fn change(&mut self, rt: &impl Print, peer: u8, at: usize, octet: u8) -> io::Result<()> {
+    fn change(&mut self, rt: &impl Print, peer: u8, at: usize, octet: u8) -> io::Result<()>
+        ensures { self.new.table.end ≡ self.old.table.end }
+    {
         if at < store::LENGTH {
             match peer {
                 1 => self.one[at] = octet,
@@ -203,7 +216,9 @@ impl Unit {
     }
 
     // One part. One that is too short to name a peer is a request of none.
-    fn part(&mut self, rt: &impl Print, s: &[u8]) -> io::Result<()> {
+    fn part(&mut self, rt: &impl Print, s: &[u8]) -> io::Result<()>
+        ensures { self.old.table.end ≤ 9729 → self.new.table.end ≤ 9729 }
+    {
         if let Ok(making) = <&[u8; MAKING]>::try_from(s)
             && making[0] == 0
         {
