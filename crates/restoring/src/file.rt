@@ -1,5 +1,5 @@
 // Reading a stored table, and putting a new file in its place.
-ghost use Rattle.std.specs.Prelude.{◌≡◌, ◌<◌, ◌≤◌, length, IfOk};
+ghost use Rattle.std.specs.Prelude.{◌≡◌, ◌<◌, ◌≤◌, length, IfOk, IfSome};
 
 use crate::names;
 use crate::say::{Done, Failure, Subject};
@@ -70,12 +70,12 @@ fn sound(front: &[u8], all: usize, said: usize) -> Result<&[u8], &'static str>
 }
 
 // The table at the front of a file after which so many octets follow, if this program takes it; else what is wrong with it.
-fn taken(front: &[u8], rest: usize) -> Result<&[u8], &'static str>
+fn taken(front: &[u8], rest: Option<usize>) -> Result<&[u8], &'static str>
     ensures { IfOk result (λ t. (63 ≤ length t.now) × (length t.now ≤ length front.now)) }
 {
-    if OLD_STORES < rest {
+    let Some(rest) = rest else {
         return Err(LONGER);
-    }
+    };
     if front.len() < format::HEAD {
         return Err(SHORTER);
     }
@@ -94,15 +94,26 @@ pub fn open<R: Files>(rt: &R, path: &[u8]) -> io::Result<R::File> {
     fs::open(rt, names::text(path)?)
 }
 
-// Reads the file of that name: how many octets stand at the front of t then, and how many follow, which are counted up to one more than the stores
-// after a table can have.
-fn read_front(rt: &impl Files, path: &[u8], t: &mut [u8]) -> io::Result<(usize, usize)>
+// How many octets the file still has; nothing where it has more than those of all stores that may follow a table.
+fn rest_of(file: &mut impl Read) -> io::Result<Option<usize>>
+    ensures { IfOk result (λ rest. IfSome rest (λ n. n ≤ 213384)) }
+{
+    let rest = io::copy(&mut file.by_ref().take(OLD_STORES as u64), &mut io::sink())?;
+    if input::read_full(file, &mut [0u8; 1])? == 0 {
+        Ok(Some((rest as usize).min(OLD_STORES)))
+    } else {
+        Ok(None)
+    }
+}
+
+// Reads the file of that name: how many octets stand at the front of t then, and how many follow.
+fn read_front(rt: &impl Files, path: &[u8], t: &mut [u8]) -> io::Result<(usize, Option<usize>)>
     ensures within { IfOk result (λ read. read.0 ≤ length t.new) }
+    ensures rest { IfOk result (λ read. IfSome read.1 (λ n. n ≤ 213384)) }
 {
     let mut file = open(rt, path)?;
     let held = input::read_full(&mut file, t)?;
-    let rest = io::copy(&mut file.take(OLD_STORES as u64 + 1), &mut io::sink())?;
-    Ok((held, rest as usize))
+    Ok((held, rest_of(&mut file)?))
 }
 
 // Reads the stored table of that name, which has to be sound.

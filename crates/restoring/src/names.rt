@@ -1,4 +1,6 @@
 // Names of files: the arguments, and a name beside another.
+ghost use Rattle.std.specs.Prelude.{◌≤◌, length, IfOk, IfSome};
+
 use crate::say::{Failure, Subject};
 use std::env::{Env, FillError};
 use std::{io, str};
@@ -27,7 +29,9 @@ pub fn count(rt: &impl Env) -> usize {
 }
 
 // Argument i, at the front of room.
-pub fn argument<'a>(rt: &impl Env, i: usize, room: &'a mut [u8]) -> io::Result<&'a [u8]> {
+pub fn argument<'a>(rt: &impl Env, i: usize, room: &'a mut [u8]) -> io::Result<&'a [u8]>
+    ensures { IfOk result (λ word. length word.now ≤ length room.old) }
+{
     match rt.arg(i, room) {
         Ok(n) => Ok(&room[..n]),
         Err(FillError::TooLong) => Err(io::Error::from_raw_os_error(TOO_LONG)),
@@ -55,7 +59,9 @@ pub fn text(name: &[u8]) -> io::Result<&str> {
 }
 
 // The name beside path, at the front of room; nothing where path is too long for that. Letters come in the place of the X's.
-pub fn beside<'a>(path: &[u8], room: &'a mut [u8; ROOM]) -> Option<&'a mut [u8]> {
+pub fn beside<'a>(path: &[u8], room: &'a mut [u8; ROOM]) -> Option<&'a mut [u8]>
+    ensures { IfSome result (λ name. length name.now ≤ 4096) }
+{
     if ROOM - BESIDE.len() <= path.len() {
         return None;
     }

@@ -134,8 +134,11 @@ fn run<R: Files + Print + RandomSource, E: Print>(
     if make(stored, new) != 0 {
         return Err(say::refused(file.err, "a table with these settings cannot be made"));
     }
-    let mut opened = file::open(rt, file.name).map_err(|why| file.failed(&why))?;
-    let n = requests(file, &mut opened, new)?;
+    // The file is closed before another is opened.
+    let n = {
+        let mut opened = file::open(rt, file.name).map_err(|why| file.failed(&why))?;
+        requests(file, &mut opened, new)?
+    };
     let same = stored == &*new;
     file::replace(rt, place, |beside| {
         beside.write_all(new).map_err(|why| place.failed(&why))?;
