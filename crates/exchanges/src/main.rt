@@ -179,7 +179,8 @@ struct Unit {
 impl Unit {
     // A new table empties the stores.
     fn remake(&mut self, rt: &impl Print, s: &[u8; MAKING]) -> io::Result<()>
-        ensures { self.old.table.end ≤ 9729 → self.new.table.end ≤ 9729 }
+        requires { self.old.table.end ≤ 9729 }
+        ensures { self.new.table.end ≤ 9729 }
     {
         let made = self.table.make(s);
         if made.is_ok() {
@@ -217,7 +218,8 @@ impl Unit {
 
     // One part. One that is too short to name a peer is a request of none.
     fn part(&mut self, rt: &impl Print, s: &[u8]) -> io::Result<()>
-        ensures { self.old.table.end ≤ 9729 → self.new.table.end ≤ 9729 }
+        requires { self.old.table.end ≤ 9729 }
+        ensures { self.new.table.end ≤ 9729 }
     {
         if let Ok(making) = <&[u8; MAKING]>::try_from(s)
             && making[0] == 0
