@@ -69,7 +69,8 @@ impl Fault {
     pub fn tell(self, file: Subject<'_, impl Print>, number: u64) -> Failure {
         match self {
             Fault::Unread(_) => file.refused(self),
-            _ => file.refused(format_args!("request {number} {self}")),
+            Fault::Refused(_) => file.refused_cause(number, self),
+            _ => file.refused_request(number, self),
         }
     }
 }

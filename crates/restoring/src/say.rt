@@ -79,16 +79,46 @@ pub struct Subject<'a, E> {
     pub name: &'a [u8],
 }
 
+// A piece of a line. Nobody is told where standard error does not take it; the next piece may be taken.
+fn put(err: &impl Print, piece: impl Display + Drop) {
+    let _ = print!(err; "{piece}");
+}
+
 impl<'a, E: Print> Subject<'a, E> {
-    fn line(self, why: impl Display + Drop) -> io::Result<()> {
-        self.err.write_all(b"pfcp-restore: ")?;
-        self.err.write_all(self.name)?;
-        println!(self.err; ": {why}")
+    // The start of a line about it.
+    fn begin(self) {
+        put(self.err, "pfcp-restore: ");
+        let _ = self.err.write_all(self.name);
     }
 
     // What is wrong with it.
     pub fn refused(self, why: impl Display + Drop) -> Failure {
-        let _ = self.line(why);
+        self.begin();
+        put(self.err, ": ");
+        put(self.err, why);
+        put(self.err, "\n");
+        Failure::Refused
+    }
+
+    // The start of a line about a request of it, the first being 1.
+    fn begin_request(self, number: u64) {
+        self.begin();
+        put(self.err, format_args!(": request {number}"));
+    }
+
+    // What is wrong with a request of it.
+    pub fn refused_request(self, number: u64, why: impl Display + Drop) -> Failure {
+        self.begin_request(number);
+        put(self.err, " ");
+        put(self.err, why);
+        put(self.err, "\n");
+        Failure::Refused
+    }
+
+    // A request of it was answered with another cause than acceptance.
+    pub fn refused_cause(self, number: u64, why: impl Display + Drop) -> Failure {
+        self.begin_request(number);
+        put(self.err, format_args!(" {why}\n"));
         Failure::Refused
     }
 
@@ -108,7 +138,9 @@ impl<'a, E: Print> Subject<'a, E> {
 
 // What is wrong with the command as a whole.
 pub fn refused(err: &impl Print, why: impl Display + Drop) -> Failure {
-    let _ = println!(err; "pfcp-restore: {why}");
+    put(err, "pfcp-restore: ");
+    put(err, why);
+    put(err, "\n");
     Failure::Refused
 }
 
